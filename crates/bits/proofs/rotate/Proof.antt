@@ -1,0 +1,27 @@
+-- By 0 nothing moves; else the two parts change places: `rotate-law`. Assumes nothing.
+use mathlib.Core.Path.{_≡_}
+use native.Mathlib.Omega.{arith}
+use Rattle.bits.specs.Bits.{rotatedUp}
+use Rattle.bits.proofs.Laws.{rotate-law}
+use borrow.Author.Needs.{needs}
+use Rattle.bits.proofs.rotate.Statement.{statement}
+use Rattle.bits.proofs.rotate.Tie as tie
+
+returns : tie.Need-returns
+unfolding rotatedUp
+returns c = let e : c .before .args .k ≡ 0 = c .if1 .taken in rw e (omega arith)
+
+shl-result : tie.Need-shl-result
+shl-result c = search needs
+
+sub-result : tie.Need-sub-result
+sub-result c = search needs
+
+shr-result : tie.Need-shr-result
+shr-result c = search needs
+
+returns-2 : tie.Need-returns-2
+returns-2 c = rotate-law (c .before .args .k) (c .before .args .x) (omega arith) (c .before .fits .x .fits)
+
+pub rotate-spec : {M : Type 1} → statement M
+rotate-spec = tie.close (tie.spec returns shl-result sub-result shr-result returns-2)

@@ -1,0 +1,173 @@
+// Leaves: what the pages do with the bits of one data word. Each hides its bit trick behind a promise in plain arithmetic, so that
+// nothing above uses a mask on data. They are public for the crates above; a `requires` keeps n, a count of selected bits, in range.
+ghost use mathlib.Core.Path.{_≡_};
+ghost use Prim.Native.Nat.{ℕ, _+_, _-_, _*_, _/_, _%_, _^_, _<_, _≤_};
+ghost use Rattle.bits.specs.Bits.{selected, bitOf, signOf, zeroOf, merged, notOf, copies, carryOf, overflowOf, upBy, rotatedUp, fieldMask, maskedOf, putBit, priorityOf, parityOf};
+
+// How many bits a byte code selects (tables 3 and 5).
+pub fn selected_bits(code: u32) -> u32
+    requires { ⌜ code < 4 ⌝ }
+    ensures { λ r. ⌜ (r ≡ selected code) × (8 ≤ r) × (r ≤ 32) ⌝ }
+{
+    if code == 0 {
+        return 32;
+    }
+    8 * code
+}
+
+// The low n bits set.
+pub fn mask(n: u32) -> u32
+    requires { ⌜ (1 ≤ n) × (n ≤ 32) ⌝ }
+    ensures { λ r. ⌜ r ≡ 2 ^ n - 1 ⌝ }
+{
+    0xffff_ffff >> (32 - n)
+}
+
+// The low n bits of x.
+pub fn cut(x: u32, n: u32) -> u32
+    requires { ⌜ (1 ≤ n) × (n ≤ 32) ⌝ }
+    ensures { λ r. ⌜ r ≡ x % 2 ^ n ⌝ }
+{
+    x & mask(n)
+}
+
+// Selected bits of s, unselected bits of u.
+pub fn merge(s: u32, u: u32, n: u32) -> u32
+    requires { ⌜ (1 ≤ n) × (n ≤ 32) ⌝ }
+    ensures { λ r. ⌜ r ≡ merged n s u ⌝ }
+{
+    let m = mask(n);
+    (s & m) | (u & !m)
+}
+
+pub fn bit(i: u32, x: u32) -> u32
+    requires { ⌜ i < 32 ⌝ }
+    ensures { λ r. ⌜ r ≡ bitOf i x ⌝ }
+{
+    (x >> i) % 2
+}
+
+// The top selected bit.
+pub fn sign(x: u32, n: u32) -> u32
+    requires { ⌜ (1 ≤ n) × (n ≤ 32) ⌝ }
+    ensures { λ r. ⌜ r ≡ signOf n x ⌝ }
+{
+    bit(n - 1, x)
+}
+
+pub fn is_zero(x: u32, n: u32) -> u32
+    requires { ⌜ (1 ≤ n) × (n ≤ 32) ⌝ }
+    ensures { λ r. ⌜ r ≡ zeroOf n x ⌝ }
+{
+    if cut(x, n) == 0 { 1 } else { 0 }
+}
+
+// 32 copies of a flag.
+pub fn spread(f: u32) -> u32
+    requires { ⌜ f < 2 ⌝ }
+    ensures { λ r. ⌜ r ≡ copies f ⌝ }
+{
+    f * 0xffff_ffff
+}
+
+// The wrapping sum of the data word.
+pub fn add(a: u32, b: u32, c: u32) -> u32
+    ensures { λ r. ⌜ r ≡ (a + b + c) % 2 ^ 32 ⌝ }
+{
+    std::num::wrapping_add_u32(std::num::wrapping_add_u32(a, b), c)
+}
+
+// The wrapping difference: a - b where c is 1, and one less where c is 0.
+pub fn subtract(a: u32, b: u32, c: u32) -> u32
+    requires { ⌜ c < 2 ⌝ }
+    ensures { λ r. ⌜ r ≡ (a + notOf b + c) % 2 ^ 32 ⌝ }
+{
+    std::num::wrapping_sub_u32(std::num::wrapping_sub_u32(a, b), 1 - c)
+}
+
+// The carry out of the top selected bit of a + b + c, from that sum s: the operands' bits where they agree, else the
+// complement of the sum's.
+pub fn carry(a: u32, b: u32, c: u32, s: u32, n: u32) -> u32
+    requires { ⌜ (1 ≤ n) × (n ≤ 32) × (c < 2) × (s ≡ (a + b + c) % 2 ^ 32) ⌝ }
+    ensures { λ r. ⌜ r ≡ carryOf n a b c ⌝ }
+{
+    bit(n - 1, (a & b) | ((a | b) & !s))
+}
+
+// Its overflow: the sum's sign is that of neither operand.
+pub fn overflow(a: u32, b: u32, c: u32, s: u32, n: u32) -> u32
+    requires { ⌜ (1 ≤ n) × (n ≤ 32) × (c < 2) × (s ≡ (a + b + c) % 2 ^ 32) ⌝ }
+    ensures { λ r. ⌜ r ≡ overflowOf n a b c ⌝ }
+{
+    bit(n - 1, (a ^ s) & (b ^ s))
+}
+
+// A word shifted up by k, zeros below.
+pub fn up(k: u32, x: u32) -> u32
+    requires { ⌜ k < 32 ⌝ }
+    ensures { λ r. ⌜ r ≡ upBy k x ⌝ }
+{
+    x << k
+}
+
+// A word rotated up by k.
+pub fn rotate(k: u32, x: u32) -> u32
+    requires { ⌜ k < 32 ⌝ }
+    ensures { λ r. ⌜ r ≡ rotatedUp k x ⌝ }
+{
+    if k == 0 {
+        return x;
+    }
+    (x << k) | (x >> (32 - k))
+}
+
+// Ones in the w bits from bit p up.
+pub fn field_mask(p: u32, w: u32) -> u32
+    requires { ⌜ (p < 32) × (1 ≤ w) × (w ≤ 32) ⌝ }
+    ensures { λ r. ⌜ r ≡ fieldMask p w ⌝ }
+{
+    mask(w) << p
+}
+
+// s where the mask has ones, u elsewhere.
+pub fn masked(m: u32, s: u32, u: u32) -> u32
+    ensures { λ r. ⌜ r ≡ maskedOf m s u ⌝ }
+{
+    (s & m) | (u & !m)
+}
+
+pub fn set_bit(i: u32, x: u32) -> u32
+    requires { ⌜ i < 32 ⌝ }
+    ensures { λ r. ⌜ r ≡ putBit i 1 x ⌝ }
+{
+    x | (1 << i)
+}
+
+pub fn clear_bit(i: u32, x: u32) -> u32
+    requires { ⌜ i < 32 ⌝ }
+    ensures { λ r. ⌜ r ≡ putBit i 0 x ⌝ }
+{
+    x & !(1 << i)
+}
+
+// The priority code: leading zeros of the selected bytes.
+pub fn priority(x: u32, n: u32) -> u32
+    requires { ⌜ (1 ≤ n) × (n ≤ 32) ⌝ }
+    ensures { λ r. ⌜ r ≡ priorityOf n x ⌝ }
+{
+    let s = cut(x, n);
+    if s == 0 {
+        return 0;
+    }
+    u32::leading_zeros(s) - (32 - n)
+}
+
+// Even parity by counts of ones, highest byte first.
+pub fn parity(x: u32) -> u32
+    ensures { λ r. ⌜ r ≡ parityOf x ⌝ }
+{
+    u32::count_ones((x >> 24) % 256) % 2 * 8
+        + u32::count_ones((x >> 16) % 256) % 2 * 4
+        + u32::count_ones((x >> 8) % 256) % 2 * 2
+        + u32::count_ones(x % 256) % 2
+}

@@ -1,0 +1,86 @@
+-- The status register ('Status Register', figure 3): its fields, the word that a program reads, and the word that it loads. Inside the chip it
+-- is held without bits 13, 14, 15 and 23. Assumes nothing.
+use Prim.Native.Nat.{ℕ, _+_, _*_, _/_, _%_, _^_, _<_, max}
+use Rattle.bits.specs.Bits.{xor}
+use Rattle.machine.specs.declared.Status.{Status}
+use Rattle.machine.specs.declared.Machine.{Machine}
+
+-- bits 13 to 15, read only, as one number: C or Z; N xor V; (N xor V) or Z
+abbrev pub workedOut : Status → ℕ
+workedOut s = max (s .c) (s .z) + xor (s .n) (s .v) * 2 + max (xor (s .n) (s .v)) (s .z) * 4
+
+-- the register as it is read: bits 13 to 15 worked out, bit 23 zero
+unfoldable pub asRead : Status → ℕ
+asRead s =
+    s .position
+    + s .width * 2 ^ 8
+    + workedOut s * 2 ^ 13
+    + s .c * 2 ^ 16
+    + s .n * 2 ^ 17
+    + s .v * 2 ^ 18
+    + s .z * 2 ^ 19
+    + s .l * 2 ^ 20
+    + s .m * 2 ^ 21
+    + s .s * 2 ^ 22
+    + s .nibbles * 2 ^ 24
+
+-- a word loaded into the register: its bits 13, 14, 15 and 23 are ignored
+unfoldable pub loaded : ℕ → Status
+loaded x =
+    record {
+      position = x % 2 ^ 8;
+      width = x / 2 ^ 8 % 2 ^ 5;
+      c = x / 2 ^ 16 % 2;
+      n = x / 2 ^ 17 % 2;
+      v = x / 2 ^ 18 % 2;
+      z = x / 2 ^ 19 % 2;
+      l = x / 2 ^ 20 % 2;
+      m = x / 2 ^ 21 % 2;
+      s = x / 2 ^ 22 % 2;
+      nibbles = x / 2 ^ 24 % 2 ^ 8;
+    }
+
+-- each field within its bits
+pub record Good (t : Status) : Type 0 where
+  pub position : t .position < 256
+  pub width : t .width < 32
+  pub c : t .c < 2
+  pub n : t .n < 2
+  pub v : t .v < 2
+  pub z : t .z < 2
+  pub l : t .l < 2
+  pub m : t .m < 2
+  pub s : t .s < 2
+  pub nibbles : t .nibbles < 256
+
+-- ---- the register with one part changed, each other part as it was
+abbrev pub withPosition : ℕ → Status → Status
+withPosition p s = record { position = p; width = s .width; c = s .c; n = s .n; v = s .v; z = s .z; l = s .l; m = s .m; s = s .s; nibbles = s .nibbles }
+
+abbrev pub withC : ℕ → Status → Status
+withC f s = record { position = s .position; width = s .width; c = f; n = s .n; v = s .v; z = s .z; l = s .l; m = s .m; s = s .s; nibbles = s .nibbles }
+
+abbrev pub withN : ℕ → Status → Status
+withN f s = record { position = s .position; width = s .width; c = s .c; n = f; v = s .v; z = s .z; l = s .l; m = s .m; s = s .s; nibbles = s .nibbles }
+
+abbrev pub withV : ℕ → Status → Status
+withV f s = record { position = s .position; width = s .width; c = s .c; n = s .n; v = f; z = s .z; l = s .l; m = s .m; s = s .s; nibbles = s .nibbles }
+
+abbrev pub withZ : ℕ → Status → Status
+withZ f s = record { position = s .position; width = s .width; c = s .c; n = s .n; v = s .v; z = f; l = s .l; m = s .m; s = s .s; nibbles = s .nibbles }
+
+abbrev pub withL : ℕ → Status → Status
+withL f s = record { position = s .position; width = s .width; c = s .c; n = s .n; v = s .v; z = s .z; l = f; m = s .m; s = s .s; nibbles = s .nibbles }
+
+abbrev pub withM : ℕ → Status → Status
+withM f s = record { position = s .position; width = s .width; c = s .c; n = s .n; v = s .v; z = s .z; l = s .l; m = f; s = s .s; nibbles = s .nibbles }
+
+abbrev pub withS : ℕ → Status → Status
+withS f s = record { position = s .position; width = s .width; c = s .c; n = s .n; v = s .v; z = s .z; l = s .l; m = s .m; s = f; nibbles = s .nibbles }
+
+abbrev pub withNibbles : ℕ → Status → Status
+withNibbles k s = record { position = s .position; width = s .width; c = s .c; n = s .n; v = s .v; z = s .z; l = s .l; m = s .m; s = s .s; nibbles = k }
+
+-- Q and the status register at zero
+abbrev pub freshOf : Machine
+freshOf = record { q = 0; status = 0 }

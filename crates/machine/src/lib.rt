@@ -1,0 +1,201 @@
+// The machine: the status register, Q, and what stands at the chip when a word starts and when it ends.
+ghost use mathlib.Core.Path.{_≡_};
+ghost use Prim.Native.Nat.{ℕ, _+_, _*_, _/_, _%_, _^_, _<_, _≤_, max};
+ghost use Rattle.machine.specs.Status.{workedOut, asRead, loaded, Good, freshOf};
+ghost use Rattle.machine.specs.Inputs.{bitsOf, positionOf, widthOf, carryIn, linkIn, fullWidth, leaving, result, Sound};
+
+// The status register as fields, without bits 13, 14, 15 and 23. Each flag is 0 or 1.
+pub struct Status {
+    pub position: u32,
+    pub width: u32,
+    pub c: u32,
+    pub n: u32,
+    pub v: u32,
+    pub z: u32,
+    pub l: u32,
+    pub m: u32,
+    pub s: u32,
+    pub nibbles: u32,
+}
+
+// Q and the status register as a caller holds them between runs: two words.
+pub struct Machine {
+    pub q: u32,
+    pub status: u32,
+}
+
+// What a word meets: its byte code I8 I7, position and width, macro select, carry and link, borrow; the A and B inputs; Q and
+// the status register.
+pub struct Inputs {
+    pub code: u32,
+    pub position: u32,
+    pub width: u32,
+    pub select: u32,
+    pub carry: u32,
+    pub link: u32,
+    pub borrow: u32,
+    pub a: u32,
+    pub b: u32,
+    pub q: u32,
+    pub status: Status,
+}
+
+// What it leaves: the Y bus, Q and the status register.
+pub struct Outputs {
+    pub y: u32,
+    pub q: u32,
+    pub status: Status,
+}
+
+impl Machine {
+    pub fn fresh() -> Machine
+        ensures { λ r. ⌜ r ≡ freshOf ⌝ }
+    {
+        Machine { q: 0, status: 0 }
+    }
+}
+
+impl Status {
+    // Bit weights (figure 3). The position bits start at weight 1.
+    pub const WIDTH: u32 = 0x100;
+    pub const WORKED_OUT: u32 = 0x2000;
+    pub const C: u32 = 0x1_0000;
+    pub const N: u32 = 0x2_0000;
+    pub const V: u32 = 0x4_0000;
+    pub const Z: u32 = 0x8_0000;
+    pub const L: u32 = 0x10_0000;
+    pub const M: u32 = 0x20_0000;
+    pub const S: u32 = 0x40_0000;
+    pub const NIBBLES: u32 = 0x100_0000;
+
+    // A word loaded into the register: bits 13, 14, 15 and 23 are ignored.
+    pub fn load(x: u32) -> Status
+        ensures { λ r. ⌜ r ≡ loaded x ⌝ }
+    {
+        Status {
+            position: x % 256,
+            width: x / Self::WIDTH % 32,
+            c: x / Self::C % 2,
+            n: x / Self::N % 2,
+            v: x / Self::V % 2,
+            z: x / Self::Z % 2,
+            l: x / Self::L % 2,
+            m: x / Self::M % 2,
+            s: x / Self::S % 2,
+            nibbles: x / Self::NIBBLES % 256,
+        }
+    }
+
+    // Bits 13 to 15 as one number, lowest first.
+    pub fn work_out(self) -> u32
+        requires { ⌜ Good self ⌝ }
+        ensures { λ r. ⌜ r ≡ workedOut self ⌝ }
+    {
+        let less = (self.n + self.v) % 2;
+        either(self.c, self.z) + less * 2 + either(less, self.z) * 4
+    }
+
+    // The register as it is read.
+    pub fn read(self) -> u32
+        requires { ⌜ Good self ⌝ }
+        ensures { λ r. ⌜ r ≡ asRead self ⌝ }
+    {
+        let worked_out = self.work_out();
+        self.position
+            + self.width * Self::WIDTH
+            + worked_out * Self::WORKED_OUT
+            + self.c * Self::C
+            + self.n * Self::N
+            + self.v * Self::V
+            + self.z * Self::Z
+            + self.l * Self::L
+            + self.m * Self::M
+            + self.s * Self::S
+            + self.nibbles * Self::NIBBLES
+    }
+}
+
+impl Inputs {
+    // The number of selected bits.
+    pub fn bits(self) -> u32
+        requires { ⌜ Sound self ⌝ }
+        ensures { λ r. ⌜ (r ≡ bitsOf self) × (8 ≤ r) × (r ≤ 32) ⌝ }
+    {
+        bits::selected_bits(self.code)
+    }
+
+    // The position that I8 chooses.
+    pub fn position(self) -> u32
+        requires { ⌜ Sound self ⌝ }
+        ensures { λ r. ⌜ (r ≡ positionOf self) × (r < 64) ⌝ }
+    {
+        if self.code < 2 {
+            return self.position;
+        }
+        self.status.position % 64
+    }
+
+    // The width that I7 chooses, 1 to 32.
+    pub fn width(self) -> u32
+        requires { ⌜ Sound self ⌝ }
+        ensures { λ r. ⌜ (r ≡ widthOf self) × (1 ≤ r) × (r ≤ 32) ⌝ }
+    {
+        if self.code % 2 == 0 {
+            return full_width(self.width);
+        }
+        full_width(self.status.width)
+    }
+
+    // The carry that macro select chooses.
+    pub fn carry_in(self) -> u32
+        requires { ⌜ Sound self ⌝ }
+        ensures { λ r. ⌜ (r ≡ carryIn self) × (r < 2) ⌝ }
+    {
+        if self.select == 0 {
+            return self.status.c;
+        }
+        self.carry
+    }
+
+    // The link that macro select chooses.
+    pub fn link_in(self) -> u32
+        requires { ⌜ Sound self ⌝ }
+        ensures { λ r. ⌜ (r ≡ linkIn self) × (r < 2) ⌝ }
+    {
+        if self.select == 0 {
+            return self.status.l;
+        }
+        self.link
+    }
+
+    // What most words leave: r in the selected bytes, u in the others, Z and N of r.
+    pub fn result(self, r: u32, u: u32) -> Outputs
+        requires { ⌜ Sound self ⌝ }
+        ensures { λ o. ⌜ o ≡ result self r u ⌝ }
+    {
+        let n = self.bits();
+        let mut s = self.status;
+        s.z = bits::is_zero(r, n);
+        s.n = bits::sign(r, n);
+        Outputs {
+            y: bits::merge(r, u, n),
+            q: self.q,
+            status: s,
+        }
+    }
+}
+
+// Width 0 stands for 32 (table 2).
+fn full_width(w: u32) -> u32
+    requires { ⌜ w < 32 ⌝ }
+    ensures { λ r. ⌜ (r ≡ fullWidth w) × (1 ≤ r) × (r ≤ 32) ⌝ }
+{
+    if w == 0 { 32 } else { w }
+}
+
+// The or of two flags.
+fn either(f: u32, g: u32) -> u32
+    ensures { λ r. ⌜ r ≡ max f g ⌝ }
+{
+    if f < g { g } else { f }
+}
