@@ -1,0 +1,2 @@
+pub mod Glossary
+pub mod Lists

@@ -1,0 +1,4 @@
+pub mod Position
+pub mod NBit
+pub mod BitManipulation
+pub mod Field

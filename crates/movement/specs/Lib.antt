@@ -1,0 +1,3 @@
+pub mod DataMovement
+pub mod Logical
+pub mod Prioritize
