@@ -1,2 +1,3 @@
 pub mod Glossary
+pub mod Operations
 pub mod Lists

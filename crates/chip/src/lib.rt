@@ -1,4 +1,7 @@
-// The chip.
+// The chip: one decision over the 128 opcode numbers, and what a word does.
+ghost use mathlib.Core.Path.{_≡_};
+ghost use Prim.Native.Nat.{ℕ, _<_};
+ghost use Rattle.chip.specs.Operations.{decodedOf};
 
 // The fields of one word of a sheet.
 pub struct Word {
@@ -14,4 +17,117 @@ pub struct Word {
     pub carry: u32,
     pub link: u32,
     pub borrow: u32,
+}
+
+// An operation with a page in chapter 2. The families that chapter 1 numbers through are held with their number in the family.
+pub enum Operation {
+    ZeroExtA,
+    ZeroExtB,
+    SignExtA,
+    SignExtB,
+    PassStat,
+    PassQ,
+    LoadQA,
+    LoadQB,
+    NotA,
+    NotB,
+    NegA,
+    NegB,
+    PriorA,
+    PriorB,
+    MergeAB,
+    MergeBA,
+    DecrA,
+    DecrB,
+    IncrA,
+    IncrB,
+    Decr2A,
+    Decr2B,
+    Incr2A,
+    Incr2B,
+    Decr4A,
+    Decr4B,
+    Incr4A,
+    Incr4B,
+    LdstatA,
+    LdstatB,
+    Zero,
+    Sign,
+    Or,
+    Xor,
+    And,
+    Xnor,
+    Add,
+    Addc,
+    Sub,
+    Subc,
+    Subr,
+    Subrc,
+    Shift(u32),
+    Decimal(u32),
+    Divide(u32),
+    Multiply(u32),
+    Field(u32),
+}
+
+// What an opcode number stands for.
+pub enum Decoded {
+    Known(Operation),
+    Opcode,
+}
+
+// One decision over the opcode numbers (document 01's form): the operation, or Opcode.
+pub fn decode(n: u32) -> Decoded
+    ensures { λ r. ⌜ r ≡ decodedOf n ⌝ }
+{
+    match n {
+        0x00 => Decoded::Known(Operation::ZeroExtA),
+        0x01 => Decoded::Known(Operation::ZeroExtB),
+        0x02 => Decoded::Known(Operation::SignExtA),
+        0x03 => Decoded::Known(Operation::SignExtB),
+        0x04 => Decoded::Known(Operation::PassStat),
+        0x05 => Decoded::Known(Operation::PassQ),
+        0x06 => Decoded::Known(Operation::LoadQA),
+        0x07 => Decoded::Known(Operation::LoadQB),
+        0x08 => Decoded::Known(Operation::NotA),
+        0x09 => Decoded::Known(Operation::NotB),
+        0x0a => Decoded::Known(Operation::NegA),
+        0x0b => Decoded::Known(Operation::NegB),
+        0x0c => Decoded::Known(Operation::PriorA),
+        0x0d => Decoded::Known(Operation::PriorB),
+        0x0e => Decoded::Known(Operation::MergeAB),
+        0x0f => Decoded::Known(Operation::MergeBA),
+        0x10 => Decoded::Known(Operation::DecrA),
+        0x11 => Decoded::Known(Operation::DecrB),
+        0x12 => Decoded::Known(Operation::IncrA),
+        0x13 => Decoded::Known(Operation::IncrB),
+        0x14 => Decoded::Known(Operation::Decr2A),
+        0x15 => Decoded::Known(Operation::Decr2B),
+        0x16 => Decoded::Known(Operation::Incr2A),
+        0x17 => Decoded::Known(Operation::Incr2B),
+        0x18 => Decoded::Known(Operation::Decr4A),
+        0x19 => Decoded::Known(Operation::Decr4B),
+        0x1a => Decoded::Known(Operation::Incr4A),
+        0x1b => Decoded::Known(Operation::Incr4B),
+        0x1c => Decoded::Known(Operation::LdstatA),
+        0x1d => Decoded::Known(Operation::LdstatB),
+        0x20..=0x3b => Decoded::Known(Operation::Shift(n - 0x20)),
+        0x3c => Decoded::Known(Operation::Zero),
+        0x3d => Decoded::Known(Operation::Sign),
+        0x3e => Decoded::Known(Operation::Or),
+        0x3f => Decoded::Known(Operation::Xor),
+        0x40 => Decoded::Known(Operation::And),
+        0x41 => Decoded::Known(Operation::Xnor),
+        0x42 => Decoded::Known(Operation::Add),
+        0x43 => Decoded::Known(Operation::Addc),
+        0x44 => Decoded::Known(Operation::Sub),
+        0x45 => Decoded::Known(Operation::Subc),
+        0x46 => Decoded::Known(Operation::Subr),
+        0x47 => Decoded::Known(Operation::Subrc),
+        0x48..=0x4b => Decoded::Known(Operation::Decimal(n - 0x48)),
+        0x4e..=0x5a => Decoded::Known(Operation::Divide(n - 0x4e)),
+        0x5b..=0x5f => Decoded::Known(Operation::Multiply(n - 0x5b)),
+        0x60..=0x7f => Decoded::Known(Operation::Field(n - 0x60)),
+        _ => Decoded::Opcode,
+    }
 }
