@@ -1,0 +1,108 @@
+//! Known faults that can be planted in the model, to show that the digests
+//! notice them. The model asks `has` at the place concerned.
+
+use std::cell::Cell;
+
+/// Makes the list of faults and the table of what each one is.
+macro_rules! faults {
+    ($($name:ident: $what:literal,)*) => {
+        /// One known fault.
+        #[derive(Clone, Copy, PartialEq, Debug)]
+        pub enum Fault {
+            $($name,)*
+        }
+
+        /// Every fault with what it is, in the order they are tried.
+        pub const ALL: &[(Fault, &str)] = &[$((Fault::$name, $what),)*];
+    };
+}
+
+faults! {
+    CarryInLost: "the carry taken in by ADDC, SUBC, SUBRC is lost",
+    OverflowAt32Bits: "V taken at bit 31 whatever the byte code",
+    ZeroOf32Bits: "Z of all 32 bits whatever the byte code",
+    ByteCodeIgnored: "byte code ignored, always four bytes",
+    UnselectedFromA: "unselected bytes of two-operand words from A",
+    UnselectedQCleared: "unselected bytes of Q not kept",
+    ArithmeticFillFromN: "DN1-AR filled from the N flag",
+    MacroLinkIgnored: "DN1-LF never takes the macro link",
+    UpTakesMacroLink: "UP1-LF takes the macro link",
+    LinkFromOperandNotQ: "DN1 over Q: L from the operand's bit 0",
+    UpLinkFromBit31: "UP1: L from bit 31 whatever the byte code",
+    NibbleCarriesBinary: "nibble carries taken from the binary sum",
+    NibblesOfSelectedOnly: "nibble bits of unselected bytes cleared",
+    NibbleBorrowsTurned: "nibble borrows inverted in borrow mode",
+    BorrowNotOnCarryOut: "borrow not applied to C",
+    BorrowNotOnCarryIn: "SUBC, SUBRC: borrow not applied to the carry in",
+    AddTakesBorrow: "ADD, ADDC: borrow applied to C",
+    IncrIgnoresBorrow: "INCR: C in carry sense in borrow mode",
+    MacroSelectSwapped: "ADDC, SUBC, SUBRC: macro select swapped",
+    SumCorrClearsNibbles: "SUM-CORR clears the nibble carries",
+    DiffCorrCarryNotComplemented: "DIFF-CORR: C not complemented",
+    QuotientBitAsPrinted: "unsigned quotient bit as printed",
+    UdivlastNComplemented: "UDIVLAST: N is the quotient bit",
+    SignExtensionKept: "UDIVSTEP: S from the extension bit, not from F",
+    RemcorrAsPrinted: "REMCORR's condition as printed",
+    DivisorSignFromQAlone: "SDIVLAST2: divisor sign from Q alone",
+    MultiStep1ByByteCode: "MPDIVSTEP1: Y cut to the byte code",
+    MultiSelectAsInAddc: "MPDIVSTEP2, STEP3: macro select as in ADDC",
+    BoothRowsSwapped: "multiply step rows 011 and 100 swapped",
+    MultiplyMNotStored: "multiply steps: M not stored",
+    PartialZeroExtended: "multiply steps: B extended by zeros",
+    SignedZeroExtended: "SMUL: A extended by zeros",
+    RotateIsShift: "negative non-aligned position shifts",
+    ShiftBy32AsNone: "N-bit downshift by 32 as none",
+    AlignedHeedsSixthBit: "aligned field heeds the sixth position bit",
+    StatusPositionIgnored: "I8 ignored: position always from the pins",
+    WidthZeroIsZero: "width 0 as 0 bits",
+    FieldZeroOf32Bits: "field operations: Z of all 32 bits",
+    PassMaskNotInverted: "PASS-MASK never inverted",
+    ExtbitNotInverted: "EXTBIT never inverts",
+    ExtbitStatTouchesZ: "EXTBIT-STAT changes Z",
+    BitPutsHonestZ: "SETBIT, RSTBIT: Z of the result",
+    PriorCountsFrom31: "PRIOR counts from bit 31 whatever the width",
+    PriorKeepsHighPosition: "PRIOR keeps status 7 to 5",
+    SignLooksAtB: "SIGN looks at B",
+    LdstatYMasked: "LDSTAT: Y without bits 13, 14, 15, 23",
+    Bits13To15Kept: "bits 13 to 15 kept, not worked out",
+    Bit23Kept: "bit 23 kept",
+    ParityOdd: "odd parity",
+    RefusalsSwapped: "Inputs refused before Opcode",
+    RefusalWorksOutStatus: "a refusal works out the status bits",
+}
+
+/// At most one planted fault, and a record of which faults were asked about.
+pub struct Faults {
+    planted: Option<Fault>,
+    asked: Cell<u64>,
+}
+
+impl Faults {
+    /// The model as it should be.
+    pub fn none() -> Faults {
+        Faults {
+            planted: None,
+            asked: Cell::new(0),
+        }
+    }
+
+    /// The model with one fault.
+    pub fn plant(fault: Fault) -> Faults {
+        Faults {
+            planted: Some(fault),
+            asked: Cell::new(0),
+        }
+    }
+
+    /// Is this fault planted? The question is noted.
+    pub fn has(&self, fault: Fault) -> bool {
+        self.asked.set(self.asked.get() | 1 << fault as u32);
+        self.planted == Some(fault)
+    }
+
+    /// Was this fault asked about since the record was made? Without a single
+    /// question the model cannot have answered otherwise than it should.
+    pub fn was_asked(&self, fault: Fault) -> bool {
+        self.asked.get() & 1 << fault as u32 != 0
+    }
+}

@@ -1,0 +1,117 @@
+//! The interrupted run: a main sheet, one handler, a schedule of boundaries.
+
+use crate::handler::check_form;
+use crate::run::{settled, step, Machine};
+use crate::sheet::{check, refuse, word_at, Header, Verdict};
+use crate::word::reason;
+
+/// The most entries a schedule may have.
+pub const MOST_ENTRIES: usize = 1024;
+
+/// Which sheet a refusal's fault is in.
+pub const NEITHER: u8 = 0;
+pub const MAIN: u8 = 1;
+pub const HANDLER: u8 = 2;
+
+/// What an interrupted run gives.
+#[derive(Clone, Copy, PartialEq, Debug)]
+pub struct Interrupted {
+    pub verdict: Verdict,
+    pub mark: u8,
+    pub machine: Machine,
+}
+
+/// Runs the main sheet from word 0 to its end with the handler let in.
+pub fn run_interrupted(
+    main: &[u8],
+    handler: &[u8],
+    schedule: &[u16],
+    file: &mut [u32],
+    machine: Machine,
+) -> Interrupted {
+    match check_all(main, handler, schedule, file.len()) {
+        Ok((main_header, handler_header)) => {
+            let order = order(schedule, main_header.count, handler_header.count);
+            let mut machine = settled(machine);
+            for &(from_handler, i) in &order {
+                let sheet = if from_handler { handler } else { main };
+                step(&word_at(sheet, i), file, &mut machine);
+            }
+            let verdict = refuse(reason::DONE, order.len());
+            Interrupted {
+                verdict,
+                mark: NEITHER,
+                machine,
+            }
+        }
+        Err((verdict, mark)) => Interrupted {
+            verdict,
+            mark,
+            machine,
+        },
+    }
+}
+
+/// Every word in the order it runs: is it the handler's, and its number. An
+/// entry b runs the whole handler after b main words.
+fn order(schedule: &[u16], main_count: usize, handler_count: usize) -> Vec<(bool, usize)> {
+    let mut order = Vec::new();
+    for boundary in 0..=main_count {
+        for _ in schedule.iter().filter(|&&b| usize::from(b) == boundary) {
+            order.extend((0..handler_count).map(|i| (true, i)));
+        }
+        if boundary < main_count {
+            order.push((false, boundary));
+        }
+    }
+    order
+}
+
+/// Main sheet, handler sheet, 11 Form, 12 Overlap, 13 Schedule.
+fn check_all(
+    main: &[u8],
+    handler: &[u8],
+    schedule: &[u16],
+    lent: usize,
+) -> Result<(Header, Header), (Verdict, u8)> {
+    let main_header = check(main, Some(lent), None).map_err(|v| (v, MAIN))?;
+    let handler_header = check(handler, Some(lent), None).map_err(|v| (v, HANDLER))?;
+    check_form(handler, handler_header).map_err(|v| (v, HANDLER))?;
+    check_overlap(main, main_header, handler, handler_header).map_err(|v| (v, MAIN))?;
+    check_schedule(schedule, main_header.count).map_err(|v| (v, NEITHER))?;
+    Ok((main_header, handler_header))
+}
+
+/// 12 Overlap, at the first main word naming a register the handler names.
+fn check_overlap(
+    main: &[u8],
+    main_header: Header,
+    handler: &[u8],
+    handler_header: Header,
+) -> Result<(), Verdict> {
+    let mut named = [false; 64];
+    for i in 0..handler_header.count {
+        for register in word_at(handler, i).registers() {
+            named[usize::from(register)] = true;
+        }
+    }
+    for i in 0..main_header.count {
+        let shared = |&r: &u8| named[usize::from(r)];
+        if word_at(main, i).registers().iter().any(shared) {
+            return Err(refuse(reason::OVERLAP, i));
+        }
+    }
+    Ok(())
+}
+
+/// 13 Schedule, at the first entry too many, out of range or falling.
+fn check_schedule(schedule: &[u16], main_count: usize) -> Result<(), Verdict> {
+    let mut last = 0;
+    for (i, &entry) in schedule.iter().enumerate() {
+        if i == MOST_ENTRIES || usize::from(entry) > main_count || entry < last {
+            return Err(refuse(reason::SCHEDULE, i));
+        }
+        last = entry;
+    }
+    Ok(())
+}

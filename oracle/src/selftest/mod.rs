@@ -1,0 +1,98 @@
+//! The program's own tests. Each group counts its checks; a miss is printed
+//! and makes the whole fail.
+
+mod bench;
+mod decimal;
+mod examples;
+mod manual;
+mod runs;
+mod sequences;
+mod sheets;
+
+/// Counts the checks of one group.
+pub struct Group {
+    name: &'static str,
+    checks: u64,
+    misses: u64,
+}
+
+impl Group {
+    /// Notes one check; the detail is only made for a miss.
+    pub fn check(&mut self, good: bool, detail: impl FnOnce() -> String) {
+        self.checks += 1;
+        if !good {
+            self.misses += 1;
+            if self.misses <= 10 {
+                println!("MISS {}: {}", self.name, detail());
+            }
+        }
+    }
+
+    /// Notes that two values agree.
+    pub fn same<T: PartialEq + std::fmt::Debug>(&mut self, what: &str, got: T, want: T) {
+        let good = got == want;
+        self.check(good, || format!("{what}: got {got:X?}, want {want:X?}"));
+    }
+}
+
+type Test = (&'static str, fn(&mut Group));
+
+/// Every group, in order.
+const GROUPS: [Test; 22] = [
+    ("document 01, examples a to m", examples::lettered),
+    ("document 01, the trace example", examples::trace_example),
+    ("manual, field pages", manual::field_pages),
+    ("manual, tables and notes", manual::tables_and_notes),
+    ("manual, appendix A examples", manual::appendix_a),
+    ("manual, appendix A numbers", manual::ten_complements),
+    ("manual, appendix B examples", manual::appendix_b),
+    (
+        "unsigned multiply, all one-byte pairs",
+        sequences::multiply_all_bytes,
+    ),
+    ("unsigned multiply, random wider", sequences::multiply_wider),
+    (
+        "unsigned divide, all one-byte pairs",
+        sequences::divide_all_bytes,
+    ),
+    ("unsigned divide, random wider", sequences::divide_wider),
+    ("signed multiply by the manual", sequences::signed_multiply),
+    (
+        "signed divide by the manual, with its jump",
+        sequences::signed_divide,
+    ),
+    (
+        "multiprecision divide by the pages",
+        sequences::multiprecision_divide,
+    ),
+    ("decimal, all one-byte pairs", decimal::all_bytes),
+    ("decimal, random wider", decimal::wider),
+    ("decimal, counting and negation", decimal::counting),
+    ("decimal, several words long", decimal::long),
+    ("packing and unpacking", sheets::round_trips),
+    (
+        "refusals of sheets, handlers, schedules, traces",
+        sheets::refusals,
+    ),
+    ("a run in parts equals a run at once", runs::in_parts),
+    ("interrupts leave main undisturbed", runs::interrupts),
+];
+
+/// Runs every group; true where nothing missed.
+pub fn run() -> bool {
+    let mut checks = 0;
+    let mut misses = 0;
+    for (name, test) in GROUPS {
+        let mut group = Group {
+            name,
+            checks: 0,
+            misses: 0,
+        };
+        test(&mut group);
+        println!("{name}: {} checks, {} missed", group.checks, group.misses);
+        checks += group.checks;
+        misses += group.misses;
+    }
+    println!("{checks} checks, {misses} missed");
+    misses == 0
+}
