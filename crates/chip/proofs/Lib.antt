@@ -1,3 +1,4 @@
 pub mod Rest
 pub mod Pages
+pub mod Range
 pub mod Examples

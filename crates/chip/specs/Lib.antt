@@ -1,3 +1,4 @@
 pub mod Glossary
 pub mod Operations
 pub mod Lists
+pub mod Single

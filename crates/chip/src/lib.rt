@@ -1,7 +1,15 @@
-// The chip: one decision over the 128 opcode numbers, and what a word does.
+// The chip: one decision over the 128 opcode numbers, what each operation does, and the single word as an entry point.
+use machine::Inputs;
+use machine::Outputs;
+use machine::Status;
+use reasons::Reason;
 ghost use mathlib.Core.Path.{_≡_};
+ghost use mathlib.Core.Bool.{Bool, false};
 ghost use Prim.Native.Nat.{ℕ, _<_};
-ghost use Rattle.chip.specs.Operations.{decodedOf};
+ghost use Rattle.machine.specs.Inputs.{Sound};
+ghost use Rattle.chip.specs.Operations.{decodedOf, meaningOf};
+ghost use Rattle.chip.specs.declared.Decoded.the-variants.{Known};
+ghost use Rattle.chip.specs.Single.{outOfRange, refusedAs, singleInputs, performed, singleOf};
 
 // The fields of one word of a sheet.
 pub struct Word {
@@ -17,6 +25,33 @@ pub struct Word {
     pub carry: u32,
     pub link: u32,
     pub borrow: u32,
+}
+
+// A single word, with any values: its opcode and byte code, position and width, macro select, carry and link, borrow; the A and B
+// inputs; Q and the status register.
+pub struct SingleWord {
+    pub opcode: u32,
+    pub code: u32,
+    pub position: u32,
+    pub width: u32,
+    pub select: u32,
+    pub carry: u32,
+    pub link: u32,
+    pub borrow: u32,
+    pub a: u32,
+    pub b: u32,
+    pub q: u32,
+    pub status: u32,
+}
+
+// Its answer. The parity has a bit for each byte of Y, the highest byte's in bit 3.
+pub struct SingleAnswer {
+    pub reason: Reason,
+    pub place: usize,
+    pub y: u32,
+    pub parity: u32,
+    pub q: u32,
+    pub status: u32,
 }
 
 // An operation with a page in chapter 2. The families that chapter 1 numbers through are held with their number in the family.
@@ -129,5 +164,44 @@ pub fn decode(n: u32) -> Decoded
         0x5b..=0x5f => Decoded::Known(Operation::Multiply(n - 0x5b)),
         0x60..=0x7f => Decoded::Known(Operation::Field(n - 0x60)),
         _ => Decoded::Opcode,
+    }
+}
+
+// A byte code, a position, a width or a switch that is too large.
+fn out_of_range(s: SingleWord) -> bool
+    ensures { λ r. ⌜ r ≡ outOfRange (s .code) (s .position) (s .width) (s .select) (s .carry) (s .link) (s .borrow) ⌝ }
+{
+    if 3 < s.code {
+        return true;
+    }
+    if 63 < s.position {
+        return true;
+    }
+    if 31 < s.width {
+        return true;
+    }
+    if 1 < s.select {
+        return true;
+    }
+    if 1 < s.carry {
+        return true;
+    }
+    if 1 < s.link {
+        return true;
+    }
+    1 < s.borrow
+}
+
+// A refusal repeats Q and status as they were handed in.
+fn refuse(s: SingleWord, reason: Reason) -> SingleAnswer
+    ensures { λ r. ⌜ r ≡ refusedAs reason s ⌝ }
+{
+    SingleAnswer {
+        reason,
+        place: 0,
+        y: 0,
+        parity: 0,
+        q: s.q,
+        status: s.status,
     }
 }
