@@ -1,3 +1,4 @@
 pub mod Laws
 pub mod BitByBit
 pub mod Adder
+pub mod Bounds
