@@ -2,3 +2,4 @@ pub mod Laws
 pub mod BitByBit
 pub mod Adder
 pub mod Bounds
+pub mod Rest

@@ -1,4 +1,3 @@
-pub mod Rest
 pub mod Pages
 pub mod Range
 pub mod Examples

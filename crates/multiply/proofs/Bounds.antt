@@ -1,37 +1,11 @@
--- Bounds over the number n of selected bits: weights, the two extra bits, what is put together from selected and unselected bytes, and flags.
--- Assumes nothing.
-use mathlib.Core.Path.{_≡_, sym, ap, _∙_, subst}
-use mathlib.Core.Bool.{Bool, true, false}
-use Prim.Native.Nat.{ℕ, zero, suc, _+_, _-_, _*_, _/_, _%_, _^_, _≤_, _<_}
+-- Bounds over the number n of selected bits: weights, the two extra bits, and the fill of Q. Assumes nothing.
+use mathlib.Core.Path.{_≡_, ap, _∙_}
+use Prim.Native.Nat.{ℕ, _+_, _-_, _*_, _/_, _%_, _^_, _≤_, _<_}
 use native.Mathlib.Nat.{mod-lt, mul-le-mul-right, one-mul}
 use native.Mathlib.Omega.{arith}
-use lib.Arith.{digits-lt}
-use lib.Dec.{eqb}
-use lib.Pow.{pow-pos, pow-mono, pow-add, shr-lt, shl-exact}
-use Rattle.bits.specs.Bits.{selected, flag, signOf, zeroOf, merged}
+use lib.Pow.{pow-pos, pow-mono, pow-add, shl-exact}
+use Rattle.bits.specs.Bits.{signOf}
 use Rattle.bits.proofs.BitByBit.{bit-lt}
-
--- a byte code selects 8 to 32 bits
-pub selected-range : (code : ℕ) → code < 4 → (8 ≤ selected code) × (selected code ≤ 32)
-selected-range zero h = (omega arith, omega arith)
-selected-range (suc k) h = (omega arith, omega arith)
-
-pub flag-lt : (t : Bool) → flag t < 2
-flag-lt true = omega arith
-flag-lt false = omega arith
-
-pub zero-lt : (n x : ℕ) → zeroOf n x < 2
-unfolding zeroOf
-zero-lt n x = flag-lt (eqb (x % 2 ^ n) 0)
-
--- selected bytes of any value in a word make a word
-pub merged-lt : (n s u : ℕ) → n ≤ 32 → u < 2 ^ 32 → merged n s u < 2 ^ 32
-unfolding merged
-merged-lt n s u h hu =
-    let e : (32 - n) + n ≡ 32 = omega arith in
-    let p : 2 ^ (32 - n) * 2 ^ n ≡ 2 ^ 32 = sym (pow-add 2 (32 - n) n) ∙ ap (λ (k : ℕ). 2 ^ k) e in
-    subst (λ (w : ℕ). u / 2 ^ n * 2 ^ n + s % 2 ^ n < w) p
-    (digits-lt {q = u / 2 ^ n} {m = 2 ^ (32 - n)} {r = s % 2 ^ n} {c = 2 ^ n} (shr-lt (32 - n) n (subst (λ (k : ℕ). u < 2 ^ k) (sym e) hu)) (mod-lt s (pow-pos n)))
 
 -- ---- weights, and the two extra bits
 pub weight-fits : (k : ℕ) → k ≤ 35 → (1 * 2 ^ k) % 2 ^ 64 ≡ 2 ^ k

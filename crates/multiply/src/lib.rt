@@ -6,7 +6,7 @@ ghost use mathlib.Core.Path.{_≡_};
 ghost use Prim.Native.Nat.{ℕ, _+_, _-_, _*_, _/_, _%_, _^_, _<_, _≤_};
 ghost use lib.ListN.{getD};
 ghost use Rattle.machine.specs.Inputs.{bitsOf, Sound};
-ghost use Rattle.multiply.specs.Multiply.{zeroExtended, signExtended, partial, shiftedBy2, firstStep, step, UMULFIRST, UMULLAST, multiplies};
+ghost use Rattle.multiply.specs.Multiply.{zeroExtended, signExtended, partial, shiftedBy2, firstStep, step, SMULFIRST, UMULLAST, multiplies};
 
 // The weight of bit k.
 fn weight(k: u32) -> u64
@@ -106,8 +106,8 @@ pub fn last(x: Inputs) -> Outputs
 
 // The family by its place from 5B on: UMULFIRST, UMULSTEP, UMULLAST, SMULSTEP, SMULFIRST.
 pub fn multiply(k: u32, x: Inputs) -> Outputs
-    requires { ⌜ Sound x × (k < 5) ⌝ }
-    ensures { λ r. ⌜ r ≡ getD multiplies k UMULFIRST x ⌝ }
+    requires { ⌜ Sound x ⌝ }
+    ensures { λ r. ⌜ r ≡ getD multiplies k SMULFIRST x ⌝ }
 {
     let n = x.bits();
     match k {

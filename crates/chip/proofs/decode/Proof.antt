@@ -6,7 +6,7 @@ use lib.ListN.{List·getD-eq-default}
 use Rattle.chip.specs.Operations.{operations}
 use Rattle.chip.specs.declared.Operation.the-variants.{Shift, Decimal, Divide, Multiply, Field}
 use Rattle.chip.specs.declared.Decoded.the-variants.{Known, Opcode}
-use Rattle.chip.proofs.Rest.{past, run-at}
+use Rattle.bits.proofs.Rest.{past, run-at}
 use Rattle.chip.proofs.decode.Statement.{statement}
 use Rattle.chip.proofs.decode.Tie as tie
 

@@ -4,7 +4,7 @@ use native.Mathlib.Omega.{arith}
 use Rattle.bits.proofs.Laws.{merged-wrap, zero-wrap}
 use Rattle.machine.specs.Inputs.{bitsOf}
 use Rattle.multiply.specs.Multiply.{UMULLAST}
-use Rattle.multiply.proofs.Bounds.{selected-range}
+use Rattle.bits.proofs.Bounds.{selected-bounds}
 use Rattle.multiply.proofs.Rows.{once, once-more}
 use borrow.Author.Needs.{needs}
 use Rattle.multiply.proofs.last.Statement.{statement}
@@ -28,7 +28,7 @@ merge-requires c κs = search needs
 returns : tie.Need-returns
 unfolding UMULLAST
 returns c =
-    let h : bitsOf (c .before .before .before .before .before .before .args .x) ≤ 32 = selected-range _ (c .before .before .before .before .before .before .pre .code) .1 in
+    let h : bitsOf (c .before .before .before .before .before .before .args .x) ≤ 32 = selected-bounds _ (c .before .before .before .before .before .before .pre .code) .1 in
     rw (c .merge .ensures, c .before .is-zero .ensures, c .before .before .before .add .ensures, once-more _ _ _ (c .before .before .before .before .before .before .pre .status .m), c .before .before .before .before .before .bits .ensures .0)
     (rw (merged-wrap _ _ _ h, zero-wrap _ _ h))
 

@@ -1,6 +1,10 @@
 -- Each place of the family calls its word, A extended as its page says. Assumes nothing.
-use mathlib.Core.Path.{_≡_}
+use mathlib.Core.Path.{_≡_, refl}
+use Prim.Native.Nat.{_≤_}
 use native.Mathlib.Omega.{arith}
+use lib.ListN.{getD}
+use Rattle.bits.proofs.Rest.{from-last}
+use Rattle.multiply.specs.Multiply.{multiplies, SMULFIRST}
 use borrow.Author.Needs.{needs}
 use Rattle.multiply.proofs.multiply.Statement.{statement}
 use Rattle.multiply.proofs.multiply.Tie as tie
@@ -12,13 +16,13 @@ zero-extended-requires : tie.Need-zero-extended-requires
 zero-extended-requires c κs = search needs
 
 first-step-requires : tie.Need-first-step-requires
-first-step-requires c κs = (c .before .before .before .pre .0, rw (← c .before .before .bits .ensures .0) (c .zero-extended .ensures .1))
+first-step-requires c κs = (c .before .before .before .pre, rw (← c .before .before .bits .ensures .0) (c .zero-extended .ensures .1))
 
 zero-extended-requires-2 : tie.Need-zero-extended-requires-2
 zero-extended-requires-2 c κs = search needs
 
 step-requires : tie.Need-step-requires
-step-requires c κs = (c .before .before .before .pre .0, rw (← c .before .before .bits .ensures .0) (c .zero-extended2 .ensures .1))
+step-requires c κs = (c .before .before .before .pre, rw (← c .before .before .bits .ensures .0) (c .zero-extended2 .ensures .1))
 
 last-requires : tie.Need-last-requires
 last-requires c κs = search needs
@@ -27,13 +31,13 @@ sign-extended-requires : tie.Need-sign-extended-requires
 sign-extended-requires c κs = search needs
 
 step-requires-2 : tie.Need-step-requires-2
-step-requires-2 c κs = (c .before .before .before .pre .0, rw (← c .before .before .bits .ensures .0) (c .sign-extended .ensures .1))
+step-requires-2 c κs = (c .before .before .before .pre, rw (← c .before .before .bits .ensures .0) (c .sign-extended .ensures .1))
 
 sign-extended-requires-2 : tie.Need-sign-extended-requires-2
 sign-extended-requires-2 c κs = search needs
 
 first-step-requires-2 : tie.Need-first-step-requires-2
-first-step-requires-2 c κs = (c .before .before .before .pre .0, rw (← c .before .before .bits .ensures .0) (c .sign-extended2 .ensures .1))
+first-step-requires-2 c κs = (c .before .before .before .pre, rw (← c .before .before .bits .ensures .0) (c .sign-extended2 .ensures .1))
 
 returns : tie.Need-returns
 returns c = rw (c .before .before .match .keys1, c .first-step .ensures, c .before .zero-extended .ensures .0, c .before .before .before .bits .ensures .0)
@@ -49,7 +53,9 @@ returns-4 c = rw (c .before .before .match .keys4, c .step2 .ensures, c .before 
 
 returns-5 : tie.Need-returns-5
 returns-5 c =
-    let e : c .before .before .before .before .args .k ≡ 4 = omega arith in
+    let k = c .before .before .before .before .args .k in
+    let h : 4 ≤ k = omega arith in
+    let e : getD multiplies k SMULFIRST ≡ SMULFIRST = from-last multiplies SMULFIRST 4 k refl h in
     rw (e, c .first-step2 .ensures, c .before .sign-extended2 .ensures .0, c .before .before .before .bits .ensures .0)
 
 pub multiply-spec : {M : Type 1} → statement M

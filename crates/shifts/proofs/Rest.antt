@@ -1,13 +1,10 @@
--- What the default of a `match` on a number knows: the number is none of the keys. From keys that leave no gap it follows that the number lies past
--- them; and a run of a table is a function of the distance from its start. Assumes nothing.
-use mathlib.Core.Path.{_≡_, sym, ap, subst, _∙_}
+-- What the default of a `match` on a number knows: the number is none of the keys. From keys that leave no gap it follows that the number
+-- lies past them. Assumes nothing.
+use mathlib.Core.Path.{_≡_, subst}
 use mathlib.Core.Bool.{Bool, true, false}
 use mathlib.Core.List.{List, [], _∷_}
-use Prim.Native.Nat.{ℕ, zero, suc, _+_, _-_, _≤_, _<_}
-use native.Mathlib.Nat.{zero-add, add-zero, add-suc, suc-add, le-of-suc-le-suc, not-suc-le-zero}
+use Prim.Native.Nat.{ℕ, zero, suc, _+_, _≤_}
 use native.Mathlib.Omega.{arith}
-use lib.ListN.{getD, take, drop}
-use lib.Seq.{getD-drop, getD-take}
 use lib.Dec.{T, eqb, eqb→eq}
 
 -- x is none of ks: the type of `c .match .rest`, the last arm's key first
@@ -55,20 +52,3 @@ past x ks r lo (suc n) t h =
     let l : suc lo ≤ x = omega arith in
     let p : suc lo + n ≤ x = past x ks r (suc lo) n (both-right (has ks lo) (covers ks (suc lo) n) t) l in
     omega arith
-
--- a run of a table: n entries from lo on that are f at 0, 1, ..
-module _ {A : Type 0} (f : ℕ → A) where
-  abbrev pub run : ℕ → ℕ → List A
-  run k zero = []
-  run k (suc n) = f k ∷ run (suc k) n
-
-  run-get : (k n : ℕ) (d : A) (i : ℕ) → i < n → getD (run k n) i d ≡ f (k + i)
-  run-get k zero d i h = absurd (not-suc-le-zero h)
-  run-get k (suc n) d zero h = ap f (sym (add-zero k))
-  run-get k (suc n) d (suc i) h = run-get (suc k) n d i (le-of-suc-le-suc h) ∙ ap f (suc-add k i ∙ sym (add-suc k i))
-
-  pub run-at : (xs : List A) (d : A) (lo n : ℕ) → take n (drop lo xs) ≡ run 0 n → (x : ℕ) → lo ≤ x → x < lo + n → f (x - lo) ≡ getD xs x d
-  run-at xs d lo n e x l h =
-      let i : x - lo < n = omega arith in
-      ap f (sym (zero-add (x - lo))) ∙ sym (run-get 0 n d (x - lo) i) ∙ ap (λ (ys : List A). getD ys (x - lo) d) (sym e)
-      ∙ getD-take n (drop lo xs) (x - lo) d i ∙ getD-drop lo xs (x - lo) d ∙ ap (λ (m : ℕ). getD xs m d) (omega arith)

@@ -1,0 +1,21 @@
+-- The selected bits downshifted, over the source. Assumes nothing.
+use Rattle.shifts.specs.SingleBit.{down}
+use borrow.Author.Needs.{needs}
+use Rattle.shifts.proofs.down.Statement.{statement}
+use Rattle.shifts.proofs.down.Tie as tie
+
+bits-requires : tie.Need-bits-requires
+bits-requires c κs = search needs
+
+downshifted-requires : tie.Need-downshifted-requires
+downshifted-requires c κs = search needs
+
+result-requires : tie.Need-result-requires
+result-requires c κs = search needs
+
+returns : tie.Need-returns
+unfolding down
+returns c = rw (c .before .result .ensures, c .before .before .downshifted .ensures, c .before .before .before .bits .ensures .0)
+
+pub down-spec : {M : Type 1} → statement M
+down-spec = tie.close (tie.spec bits-requires downshifted-requires result-requires returns)
