@@ -8,13 +8,12 @@ use Rattle.machine.specs.Inputs.{leaving}
 use Rattle.movement.specs.DataMovement.{ZERO-EXTA, ZERO-EXTB, SIGN-EXTA, SIGN-EXTB, PASS-STAT, PASS-Q, LOADQ-A, LOADQ-B, MERGEA-B, MERGEB-A, LDSTAT-A, LDSTAT-B}
 use Rattle.movement.specs.Logical.{NOT-A, NOT-B, ZERO, SIGN, OR, XOR, AND, XNOR}
 use Rattle.movement.specs.Prioritize.{PRIOR-A, PRIOR-B}
-use Rattle.shifts.specs.SingleBit.{shifts, DN1-0F-A}
+use Rattle.shifts.specs.SingleBit.{shifts, UP1-LF-BQ}
 use Rattle.arithmetic.specs.Arithmetic.{NEG-A, NEG-B, DECR-A, DECR-B, INCR-A, INCR-B, DECR2-A, DECR2-B, INCR2-A, INCR2-B, DECR4-A, DECR4-B, INCR4-A, INCR4-B, ADD, ADDC, SUB, SUBC, SUBR, SUBRC}
-use Rattle.arithmetic.specs.Decimal.{decimals, SUM-CORR-A}
-use Rattle.multiply.specs.Multiply.{multiplies, UMULFIRST}
-use Rattle.divide.specs.Divide.{divides, SDIVFIRST}
-use Rattle.fields.specs.NBit.{NB-SN-SHA}
-use Rattle.fields.specs.Field.{fields}
+use Rattle.arithmetic.specs.Decimal.{decimals, DIFF-CORR-B}
+use Rattle.multiply.specs.Multiply.{multiplies, SMULFIRST}
+use Rattle.divide.specs.Divide.{divides, SDIVLAST2}
+use Rattle.fields.specs.Field.{fields, PASS-MASK}
 use Rattle.chip.specs.declared.Operation.{Operation}
 use Rattle.chip.specs.declared.Operation.the-variants.{ZeroExtA, ZeroExtB, SignExtA, SignExtB, PassStat, PassQ, LoadQA, LoadQB, NotA, NotB, NegA, NegB, PriorA, PriorB, MergeAB, MergeBA, DecrA, DecrB, IncrA, IncrB, Decr2A, Decr2B, Incr2A, Incr2B, Decr4A, Decr4B, Incr4A, Incr4B, LdstatA, LdstatB, Zero, Sign, Or, Xor, And, Xnor, Add, Addc, Sub, Subc, Subr, Subrc, Shift, Decimal, Divide, Multiply, Field}
 use Rattle.chip.specs.declared.Decoded.{Decoded}
@@ -88,8 +87,8 @@ meaningOf Sub x = SUB x
 meaningOf Subc x = SUBC x
 meaningOf Subr x = SUBR x
 meaningOf Subrc x = SUBRC x
-meaningOf (Shift k) x = getD shifts k DN1-0F-A x
-meaningOf (Decimal k) x = getD decimals k SUM-CORR-A x
-meaningOf (Divide k) x = getD divides k SDIVFIRST x
-meaningOf (Multiply k) x = getD multiplies k UMULFIRST x
-meaningOf (Field k) x = getD fields k NB-SN-SHA x
+meaningOf (Shift k) x = getD shifts k UP1-LF-BQ x
+meaningOf (Decimal k) x = getD decimals k DIFF-CORR-B x
+meaningOf (Divide k) x = getD divides k SDIVLAST2 x
+meaningOf (Multiply k) x = getD multiplies k SMULFIRST x
+meaningOf (Field k) x = getD fields k PASS-MASK x

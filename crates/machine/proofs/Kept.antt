@@ -1,9 +1,12 @@
 -- What most words leave is in range. Assumes nothing.
-use Prim.Native.Nat.{ℕ, _^_, _≤_, _<_}
+use mathlib.Core.List.{List, [], _∷_}
+use Prim.Native.Nat.{ℕ, zero, suc, _^_, _≤_, _<_}
+use lib.ListN.{getD}
 use Rattle.bits.specs.Bits.{zeroOf, signOf}
 use Rattle.bits.proofs.Bounds.{selected-bounds, zero-flag, sign-flag, merged-lt}
 use Rattle.machine.specs.declared.Status.{Status}
 use Rattle.machine.specs.declared.Inputs.{Inputs}
+use Rattle.machine.specs.declared.Outputs.{Outputs}
 use Rattle.machine.specs.Status.{Good, withPosition, withC, withN, withV, withZ, withL, withM, withS, withNibbles}
 use Rattle.machine.specs.Inputs.{bitsOf, zeroSign, result, Sound, Kept}
 
@@ -47,3 +50,13 @@ result-kept x r u h hq hu = record {
   q = hq;
   status = good-zero-sign (bitsOf x) r (x .status) (h .status);
 }
+
+-- every operation of a list, entry by entry
+abbrev pub EachKept : Inputs → List (Inputs → Outputs) → Type 0
+EachKept x [] = Unit
+EachKept x (f ∷ fs) = Kept (f x) × EachKept x fs
+
+pub kept-at : (x : Inputs) (fs : List (Inputs → Outputs)) (d : Inputs → Outputs) → EachKept x fs → Kept (d x) → (k : ℕ) → Kept (getD fs k d x)
+kept-at x [] d e h k = h
+kept-at x (f ∷ fs) d e h zero = e .0
+kept-at x (f ∷ fs) d e h (suc k) = kept-at x fs d (e .1) h k

@@ -1,12 +1,12 @@
 -- A multiply word on words leaves words, and a status register within its bits. Assumes nothing.
-use Prim.Native.Nat.{ℕ, zero, suc, _^_, _≤_, _<_}
+use Prim.Native.Nat.{ℕ, _^_, _≤_, _<_}
 use lib.ListN.{getD}
 use Rattle.bits.proofs.BitByBit.{bit-lt}
 use Rattle.machine.specs.declared.Inputs.{Inputs}
 use Rattle.machine.specs.Inputs.{bitsOf, Sound, Kept}
 use Rattle.multiply.specs.Multiply.{shiftedBy2, firstStep, step, SMULFIRST, UMULLAST, multiplies}
 use Rattle.bits.proofs.Bounds.{zero-flag, merged-lt}
-use Rattle.machine.proofs.Kept.{bits-le, good-m, good-z}
+use Rattle.machine.proofs.Kept.{bits-le, good-m, good-z, kept-at}
 
 module _ (x : Inputs) (sound : Sound x) (hb : x .b < 2 ^ 32) (hq : x .q < 2 ^ 32) where
   bits : bitsOf x ≤ 32
@@ -29,9 +29,4 @@ module _ (x : Inputs) (sound : Sound x) (hb : x .b < 2 ^ 32) (hq : x .q < 2 ^ 32
 
   -- the family
   pub multiplies-kept : (k : ℕ) → Kept (getD multiplies k SMULFIRST x)
-  multiplies-kept zero = first-kept _
-  multiplies-kept (suc zero) = step-kept _
-  multiplies-kept (suc (suc zero)) = last-kept
-  multiplies-kept (suc (suc (suc zero))) = step-kept _
-  multiplies-kept (suc (suc (suc (suc zero)))) = first-kept _
-  multiplies-kept (suc (suc (suc (suc (suc k))))) = first-kept _
+  multiplies-kept k = kept-at x multiplies SMULFIRST (first-kept _, (step-kept _, (last-kept, (step-kept _, (first-kept _, tt))))) (first-kept _) k

@@ -1,17 +1,15 @@
 -- Every single-bit shift leaves Y, Q and the status register in range. Assumes nothing.
-use mathlib.Core.List.{List, [], _∷_}
-use Prim.Native.Nat.{ℕ, zero, suc, _%_, _^_, _<_}
+use Prim.Native.Nat.{ℕ, _%_, _^_, _<_}
 use native.Mathlib.Nat.{mod-lt}
 use lib.Dec.{lit<}
 use lib.ListN.{getD}
 use Rattle.bits.specs.Bits.{merged}
 use Rattle.bits.proofs.Bounds.{xor-lt, sign-flag, merged-lt}
 use Rattle.machine.specs.declared.Inputs.{Inputs}
-use Rattle.machine.specs.declared.Outputs.{Outputs}
 use Rattle.machine.specs.Status.{Good}
 use Rattle.machine.specs.Inputs.{bitsOf, zeroSign, Sound, Kept}
-use Rattle.machine.proofs.Kept.{bits-le, good-v, good-l, good-zero-sign}
-use Rattle.shifts.specs.SingleBit.{down, downQ, upStatus, up, upQ, shifts, DN1-0F-A}
+use Rattle.machine.proofs.Kept.{bits-le, good-v, good-l, good-zero-sign, kept-at}
+use Rattle.shifts.specs.SingleBit.{down, downQ, upStatus, up, upQ, shifts, UP1-LF-BQ}
 
 low-flag : (s : ℕ) → s % 2 < 2
 low-flag s = mod-lt s (lit< tt)
@@ -43,16 +41,6 @@ module _ (x : Inputs) (h : Sound x) (hq : x .q < 2 ^ 32) where
   unfolding upQ
   up-q-kept s f hs = record { y = word _ s hs; q = word _ (x .q) hq; status = up-flags s _ }
 
-  -- the family, entry by entry
-  abbrev Each : List (Inputs → Outputs) → Type 0
-  Each [] = Unit
-  Each (g ∷ gs) = Kept (g x) × Each gs
-
-  each-at : (gs : List (Inputs → Outputs)) (d : Inputs → Outputs) → Each gs → Kept (d x) → (k : ℕ) → Kept (getD gs k d x)
-  each-at [] d e p k = p
-  each-at (g ∷ gs) d e p zero = e .0
-  each-at (g ∷ gs) d e p (suc k) = each-at gs d (e .1) p k
-
   -- four entries of one fill: f for A, g for B
   module _ (ha : x .a < 2 ^ 32) (hb : x .b < 2 ^ 32) where
     downs : (f g : ℕ) {E : Type 0} → E → Kept (down x (x .a) f) × (Kept (down x (x .b) g) × (Kept (downQ x (x .a) f) × (Kept (downQ x (x .b) g) × E)))
@@ -61,5 +49,5 @@ module _ (x : Inputs) (h : Sound x) (hq : x .q < 2 ^ 32) where
     ups : (f : ℕ) {E : Type 0} → E → Kept (up x (x .a) f) × (Kept (up x (x .b) f) × (Kept (upQ x (x .a) f) × (Kept (upQ x (x .b) f) × E)))
     ups f e = (up-kept (x .a) f ha, (up-kept (x .b) f hb, (up-q-kept (x .a) f ha, (up-q-kept (x .b) f hb, e))))
 
-    pub shifts-kept : (k : ℕ) → Kept (getD shifts k DN1-0F-A x)
-    shifts-kept k = each-at shifts DN1-0F-A (downs _ _ (downs _ _ (downs _ _ (downs _ _ (ups _ (ups _ (ups _ tt))))))) (down-kept _ _ ha) k
+    pub shifts-kept : (k : ℕ) → Kept (getD shifts k UP1-LF-BQ x)
+    shifts-kept k = kept-at x shifts UP1-LF-BQ (downs _ _ (downs _ _ (downs _ _ (downs _ _ (ups _ (ups _ (ups _ tt))))))) (up-q-kept _ _ hb) k

@@ -7,7 +7,7 @@ ghost use Prim.Native.Nat.{ℕ, _%_, _^_, _<_, _≤_};
 ghost use lib.ListN.{getD};
 ghost use Rattle.bits.specs.Bits.{signOf};
 ghost use Rattle.machine.specs.Inputs.{Sound, bitsOf};
-ghost use Rattle.shifts.specs.SingleBit.{downshifted, upshifted, down, downQ, up, upQ, shifts, DN1-0F-A};
+ghost use Rattle.shifts.specs.SingleBit.{downshifted, upshifted, down, downQ, up, upQ, shifts, UP1-LF-BQ};
 
 // The n selected bits of s downshifted by one bit, with f shifted in at the top.
 pub fn downshifted(s: u32, f: u32, n: u32) -> u32
@@ -113,8 +113,8 @@ pub fn up_over_q(x: Inputs, s: u32, f: u32) -> Outputs
 // The family's dispatch: k counts from opcode 20 (hex) on. DN1-LF fills with the link that macro select chooses, UP1-LF with the L
 // flag always: its pages have no macro note.
 pub fn shift(k: u32, x: Inputs) -> Outputs
-    requires { ⌜ Sound x × (k < 28) ⌝ }
-    ensures { λ r. ⌜ r ≡ getD shifts k DN1-0F-A x ⌝ }
+    requires { ⌜ Sound x ⌝ }
+    ensures { λ r. ⌜ r ≡ getD shifts k UP1-LF-BQ x ⌝ }
 {
     match k {
         0 => down(x, x.a, 0), // DN1-0F-A

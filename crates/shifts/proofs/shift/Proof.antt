@@ -1,9 +1,9 @@
 -- Each arm is the entry of the family's list at its number; the last knows that k is none of the others: `past`. Assumes nothing.
-use mathlib.Core.Path.{_≡_}
+use mathlib.Core.Path.{refl}
 use mathlib.Core.List.{List, [], _∷_}
 use Prim.Native.Nat.{ℕ, _≤_, zero-le}
-use native.Mathlib.Omega.{arith}
-use Rattle.shifts.proofs.Rest.{past}
+use Rattle.bits.proofs.Rest.{past, from-last}
+use Rattle.shifts.specs.SingleBit.{shifts, UP1-LF-BQ}
 use borrow.Author.Needs.{needs}
 use Rattle.shifts.proofs.shift.Statement.{statement}
 use Rattle.shifts.proofs.shift.Tie as tie
@@ -192,8 +192,7 @@ keys = 26 ∷ 25 ∷ 24 ∷ 23 ∷ 22 ∷ 21 ∷ 20 ∷ 19 ∷ 18 ∷ 17 ∷ 16 
 returns-28 : tie.Need-returns-28
 returns-28 c =
     let most : 27 ≤ c .before .before .args .k = past (c .before .before .args .k) keys (c .before .match .rest) 0 27 tt zero-le in
-    let last : c .before .before .args .k ≡ 27 = omega arith in
-    rw (c .up-over-q6 .ensures, last)
+    rw (c .up-over-q6 .ensures, from-last shifts UP1-LF-BQ 27 (c .before .before .args .k) refl most)
 
 pub shift-spec : {M : Type 1} → statement M
 shift-spec =

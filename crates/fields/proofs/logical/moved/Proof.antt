@@ -1,0 +1,36 @@
+-- A position below 32 shifts up, one from 32 on rotates down: `displaced-up`, `displaced-down`. Assumes nothing.
+use mathlib.Core.Path.{_≡_, ap, _∙_}
+use Prim.Native.Nat.{ℕ, _-_}
+use native.Mathlib.Omega.{arith}
+use Rattle.bits.specs.Bits.{upBy, rotatedUp, rotatedDown}
+use Rattle.fields.proofs.Laws.{displaced-up, displaced-down}
+use borrow.Author.Needs.{needs}
+use Rattle.fields.proofs.logical.moved.Statement.{statement}
+use Rattle.fields.proofs.logical.moved.Tie as tie
+
+position-requires : tie.Need-position-requires
+position-requires c κs = search needs
+
+up-requires : tie.Need-up-requires
+up-requires c κs = search needs
+
+returns : tie.Need-returns
+returns c =
+    let a = c .before .before .before .args in
+    c .up .ensures
+    ∙ displaced-up (a .x) (c .before .before .position .result) (c .before .before .position .ensures .0) (λ (k : ℕ). upBy k (a .s)) (λ (k : ℕ). rotatedDown k (a .s)) (c .before .if1 .taken)
+
+rotate-requires : tie.Need-rotate-requires
+rotate-requires c κs = search needs
+
+returns-2 : tie.Need-returns-2
+returns-2 c =
+    let a = c .before .before .before .args in
+    let p : ℕ = c .before .before .position .result in
+    let e : p - 32 ≡ 32 - (64 - p) = omega arith in
+    c .rotate .ensures
+    ∙ ap (λ (k : ℕ). rotatedUp k (a .s)) e
+    ∙ displaced-down (a .x) p (c .before .before .position .ensures .0) (λ (k : ℕ). upBy k (a .s)) (λ (k : ℕ). rotatedDown k (a .s)) (c .before .if1 .left)
+
+pub moved-spec : {M : Type 1} → statement M
+moved-spec = tie.close (tie.spec position-requires up-requires returns rotate-requires returns-2)

@@ -1,0 +1,52 @@
+-- The field starts at a position below 32, and at bit 0 from 32 on: `displaced-up`, `displaced-down`. Assumes nothing.
+use mathlib.Core.Path.{ap, _∙_}
+use Prim.Native.Nat.{ℕ}
+use Rattle.bits.specs.Bits.{fieldMask}
+use Rattle.machine.specs.Inputs.{widthOf}
+use Rattle.fields.proofs.Laws.{displaced-up, displaced-down}
+use borrow.Author.Needs.{needs}
+use Rattle.fields.proofs.logical.moved_field.Statement.{statement}
+use Rattle.fields.proofs.logical.moved_field.Tie as tie
+
+position-requires : tie.Need-position-requires
+position-requires c κs = search needs
+
+width-requires : tie.Need-width-requires
+width-requires c κs = search needs
+
+field-mask-requires : tie.Need-field-mask-requires
+field-mask-requires c κs = search needs
+
+returns : tie.Need-returns
+returns c =
+    let x = c .before .before .before .before .args .x in
+    let p : ℕ = c .before .before .before .position .result in
+    c .field-mask .ensures
+    ∙ ap (fieldMask p) (c .before .width .ensures .0)
+    ∙ displaced-up x p (c .before .before .before .position .ensures .0) (λ (k : ℕ). fieldMask k (widthOf x)) (λ (k : ℕ). fieldMask 0 (widthOf x)) (c .before .before .if1 .taken)
+
+width-requires-2 : tie.Need-width-requires-2
+width-requires-2 c κs = search needs
+
+field-mask-requires-2 : tie.Need-field-mask-requires-2
+field-mask-requires-2 c κs = search needs
+
+returns-2 : tie.Need-returns-2
+returns-2 c =
+    let x = c .before .before .before .before .args .x in
+    let p : ℕ = c .before .before .before .position .result in
+    c .field-mask2 .ensures
+    ∙ ap (fieldMask 0) (c .before .width2 .ensures .0)
+    ∙ displaced-down x p (c .before .before .before .position .ensures .0) (λ (k : ℕ). fieldMask k (widthOf x)) (λ (k : ℕ). fieldMask 0 (widthOf x)) (c .before .before .if1 .left)
+
+pub moved-field-spec : {M : Type 1} → statement M
+moved-field-spec =
+    tie.close
+    (tie.spec
+    position-requires
+    width-requires
+    field-mask-requires
+    returns
+    width-requires-2
+    field-mask-requires-2
+    returns-2)

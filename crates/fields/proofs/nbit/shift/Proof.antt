@@ -1,0 +1,55 @@
+-- A position below 32 shifts up, one from 32 on down: `displaced-up`, `displaced-down`. Assumes nothing.
+use mathlib.Core.Path.{ap, _∙_}
+use Prim.Native.Nat.{ℕ}
+use Rattle.bits.specs.Bits.{upBy}
+use Rattle.fields.specs.Position.{wholeResult}
+use Rattle.fields.specs.NBit.{downBy, shift}
+use Rattle.fields.proofs.Laws.{displaced-up, displaced-down}
+use borrow.Author.Needs.{needs}
+use Rattle.fields.proofs.nbit.shift.Statement.{statement}
+use Rattle.fields.proofs.nbit.shift.Tie as tie
+
+position-requires : tie.Need-position-requires
+position-requires c κs = search needs
+
+up-requires : tie.Need-up-requires
+up-requires c κs = search needs
+
+leave-whole-requires : tie.Need-leave-whole-requires
+leave-whole-requires c κs = search needs
+
+returns : tie.Need-returns
+unfolding shift
+returns c =
+    let a = c .before .before .before .before .args in
+    c .leave-whole .ensures
+    ∙ ap (wholeResult (a .x)) (c .before .up .ensures ∙ displaced-up (a .x) (c .before .before .before .position .result) (c .before .before .before .position .ensures .0) (λ (k : ℕ). upBy k (a .s)) (λ (k : ℕ). downBy k (a .s) (a .f)) (c .before .before .if1 .taken))
+
+sub-down : tie.Need-sub-down
+sub-down c = search needs
+
+down-requires : tie.Need-down-requires
+down-requires c κs = search needs
+
+leave-whole-requires-2 : tie.Need-leave-whole-requires-2
+leave-whole-requires-2 c κs = search needs
+
+returns-2 : tie.Need-returns-2
+unfolding shift
+returns-2 c =
+    let a = c .before .before .before .before .args in
+    c .leave-whole2 .ensures
+    ∙ ap (wholeResult (a .x)) (c .before .down .ensures ∙ displaced-down (a .x) (c .before .before .before .position .result) (c .before .before .before .position .ensures .0) (λ (k : ℕ). upBy k (a .s)) (λ (k : ℕ). downBy k (a .s) (a .f)) (c .before .before .if1 .left))
+
+pub shift-spec : {M : Type 1} → statement M
+shift-spec =
+    tie.close
+    (tie.spec
+    position-requires
+    up-requires
+    leave-whole-requires
+    returns
+    sub-down
+    down-requires
+    leave-whole-requires-2
+    returns-2)

@@ -1,0 +1,13 @@
+-- N and the given Z put into a copy of the status register. Assumes nothing.
+use borrow.Author.Needs.{needs}
+use Rattle.fields.proofs.position.leave.Statement.{statement}
+use Rattle.fields.proofs.position.leave.Tie as tie
+
+sign-requires : tie.Need-sign-requires
+sign-requires c κs = search needs
+
+returns : tie.Need-returns
+returns c = rw (c .sign .ensures)
+
+pub leave-spec : {M : Type 1} → statement M
+leave-spec = tie.close (tie.spec sign-requires returns)
