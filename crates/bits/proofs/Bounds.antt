@@ -2,14 +2,14 @@
 use mathlib.Core.Path.{_≡_, sym, subst}
 use mathlib.Core.Bool.{Bool, true, false}
 use Prim.Native.Nat.{ℕ, zero, suc, _+_, _-_, _*_, _/_, _%_, _^_, _≤_, _<_}
-use native.Mathlib.Nat.{mod-lt}
+use native.Mathlib.Nat.{mod-lt, lt-of-le-of-lt, lt-of-lt-of-le}
 use native.Mathlib.Omega.{arith}
 use lib.Arith.{digits-lt}
-use lib.Bits.{bitAnd, bitOr, and-lt, or-lt}
+use lib.Bits.{bitAnd, and-le-l, or-lt}
 use lib.Count.{leadingZeros, leading-le}
 use lib.Dec.{eqb, lit<}
-use lib.Pow.{pow-pos, pow-add, shr-lt, ones-sub-lt}
-use Rattle.bits.specs.Bits.{pick, flag, xor, selected, bitOf, signOf, zeroOf, merged, notOf, copies, upBy, rotatedUp, fieldMask, maskedOf, putBit, priorityOf}
+use lib.Pow.{pow-pos, pow-add, pow-mono, shr-lt, ones-sub-lt}
+use Rattle.bits.specs.Bits.{pick, choose, flag, xor, selected, bitOf, signOf, zeroOf, merged, notOf, copies, upBy, rotatedUp, fieldMask, maskedOf, putBit, priorityOf}
 
 pub selected-bounds : (code : ℕ) → code < 4 → (8 ≤ selected code) × (selected code ≤ 32)
 selected-bounds zero h = (omega arith, omega arith)
@@ -48,8 +48,19 @@ not-lt x = ones-sub-lt 32 x
 pub copies-lt : (f : ℕ) → f < 2 → copies f < 2 ^ 32
 copies-lt f h = omega arith
 
-pub masked-lt : (m s u : ℕ) → s < 2 ^ 32 → u < 2 ^ 32 → m < 2 ^ 32 → maskedOf m s u < 2 ^ 32
-masked-lt m s u hs hu hm = or-lt 32 (bitAnd s m) (bitAnd u (notOf m)) (and-lt 32 s m hs hm) (and-lt 32 u (notOf m) hu (not-lt m))
+pub masked-lt : (m s u : ℕ) → s < 2 ^ 32 → u < 2 ^ 32 → maskedOf m s u < 2 ^ 32
+masked-lt m s u hs hu =
+    or-lt 32 (bitAnd s m) (bitAnd u (notOf m)) (lt-of-le-of-lt (and-le-l s m) hs) (lt-of-le-of-lt (and-le-l u (notOf m)) hu)
+
+pub choose-lt : (f a b m : ℕ) → a < m → b < m → choose f a b < m
+choose-lt zero a b m h l = h
+choose-lt (suc f) a b m h l = l
+
+pub cut-lt : (n x : ℕ) → n ≤ 32 → x % 2 ^ n < 2 ^ 32
+cut-lt n x h = lt-of-lt-of-le (mod-lt x (pow-pos n)) (pow-mono h)
+
+pub up-lt : (k x : ℕ) → upBy k x < 2 ^ 32
+up-lt k x = mod-lt (x * 2 ^ k) (pow-pos 32)
 
 pub rotated-lt : (k x : ℕ) → k ≤ 32 → x < 2 ^ 32 → rotatedUp k x < 2 ^ 32
 unfolding rotatedUp
@@ -60,7 +71,7 @@ rotated-lt k x h hx =
 
 pub mask-lt : (p w : ℕ) → fieldMask p w < 2 ^ 32
 unfolding fieldMask
-mask-lt p w = mod-lt ((2 ^ w - 1) * 2 ^ p) (pow-pos 32)
+mask-lt p w = up-lt p (2 ^ w - 1)
 
 pub put-bit-lt : (i f x : ℕ) → i < 32 → f < 2 → x < 2 ^ 32 → putBit i f x < 2 ^ 32
 unfolding putBit

@@ -3,7 +3,7 @@
 use mathlib.Core.Path.{_≡_, refl, sym, ap, subst, _∙_}
 use mathlib.Core.Bool.{Bool, true, false}
 use mathlib.Core.List.{List, [], _∷_}
-use Prim.Native.Nat.{ℕ, zero, suc, _+_, _-_, _≤_, _<_}
+use Prim.Native.Nat.{ℕ, zero, suc, _+_, _-_, _≤_, _<_, zero-le}
 use native.Mathlib.Nat.{zero-add, add-zero, add-suc, suc-add, le-of-suc-le-suc, not-suc-le-zero}
 use native.Mathlib.Omega.{arith}
 use lib.ListN.{getD, take, drop}
@@ -81,3 +81,12 @@ from-last {A = A} xs d m k e h =
     only : (i : ℕ) → getD (d ∷ []) i d ≡ d
     only zero = refl
     only (suc i) = refl
+
+-- the default of a match whose keys are 0 to n - 1, the last arm's key first
+abbrev pub NoneBelow : ℕ → ℕ → Type 0
+NoneBelow x zero = Unit
+NoneBelow x (suc n) = NoneBelow x n × (x ≡ n → ⊥)
+
+pub past-below : (x n : ℕ) → NoneBelow x n → n ≤ x
+past-below x zero r = zero-le
+past-below x (suc n) r = let h : n ≤ x = past-below x n (r .0) in let ne : x ≡ n → ⊥ = r .1 in omega arith

@@ -1,5 +1,4 @@
 -- Every operation of the quarter leaves Y and Q below 2 ^ 32 and the status register in range, where the operands are below 2 ^ 32. Assumes nothing.
-use mathlib.Core.List.{List, [], _∷_}
 use Prim.Native.Nat.{ℕ, zero, suc, _+_, _-_, _/_, _%_, _^_, _≤_, _<_}
 use native.Mathlib.Nat.{mod-lt, le-of-lt}
 use native.Mathlib.Omega.{arith}
@@ -8,31 +7,17 @@ use lib.ListN.{getD}
 use lib.Bits.{bitAnd, bitOr, bitXor, and-lt, or-lt, xor-lt}
 use Rattle.bits.specs.Bits.{bitOf, signOf, zeroOf, notOf, upBy, rotatedUp, maskedOf, putBit}
 use Rattle.bits.proofs.BitByBit.{bit-lt}
-use Rattle.machine.specs.declared.Status.{Status}
+use Rattle.bits.proofs.Bounds.{zero-flag, choose-lt, not-lt, cut-lt, up-lt, mask-lt, rotated-lt, masked-lt, put-bit-lt}
 use Rattle.machine.specs.declared.Inputs.{Inputs}
-use Rattle.machine.specs.declared.Outputs.{Outputs}
-use Rattle.machine.specs.Status.{asRead, loaded, withN, withZ, withL, Good}
+use Rattle.machine.specs.Status.{asRead, loaded, withN, withZ}
 use Rattle.machine.specs.Inputs.{positionOf, givenWidth, fullWidth, widthOf, leaving, Sound, Kept}
 use Rattle.machine.proofs.Round.{loaded-good, read-lt}
+use Rattle.machine.proofs.Kept.{good-n, good-z, good-l, kept-at}
 use Rattle.fields.specs.Position.{placeOf, sixthOf, displaced, wholeResult}
-use Rattle.fields.specs.NBit.{downBy, shift, rotate, NB-SN-SHA}
+use Rattle.fields.specs.NBit.{downBy, shift, rotate}
 use Rattle.fields.specs.BitManipulation.{extracted, extractBit, putInto, putStatus, EXTBIT-STAT}
 use Rattle.fields.specs.Field.{alignedField, movedField, moved, inField, beside, rotatedPair, extractPair, PASS-MASK, fields}
 use Rattle.fields.proofs.Laws.{down-lt}
-use Rattle.fields.proofs.Bounds.{zero-lt, choose-lt, not-lt, cut-lt, up-lt, field-lt, rotated-lt, masked-lt, put-lt}
-
--- a flag put into a register in range
-good-zn : (z n : ℕ) (s : Status) → z < 2 → n < 2 → Good s → Good (withZ z (withN n s))
-good-zn z n s hz hn g =
-    record { position = g .position; width = g .width; c = g .c; n = hn; v = g .v; z = hz; l = g .l; m = g .m; s = g .s; nibbles = g .nibbles }
-
-good-l : (l : ℕ) (s : Status) → l < 2 → Good s → Good (withL l s)
-good-l l s hl g =
-    record { position = g .position; width = g .width; c = g .c; n = g .n; v = g .v; z = g .z; l = hl; m = g .m; s = g .s; nibbles = g .nibbles }
-
-good-z : (z : ℕ) (s : Status) → z < 2 → Good s → Good (withZ z s)
-good-z z s hz g =
-    record { position = g .position; width = g .width; c = g .c; n = g .n; v = g .v; z = hz; l = g .l; m = g .m; s = g .s; nibbles = g .nibbles }
 
 -- a flag is a data word
 word : (f : ℕ) → f < 2 → f < 2 ^ 32
@@ -51,10 +36,10 @@ module _ (x : Inputs) (sound : Sound x) (hq : x .q < 2 ^ 32) where
 
   -- y and a Z
   leaving-kept : (y z : ℕ) → y < 2 ^ 32 → z < 2 → Kept (leaving x y (withZ z (withN (signOf 32 y) (x .status))))
-  leaving-kept y z hy hz = record { y = hy; q = hq; status = good-zn z (signOf 32 y) (x .status) hz (bit-lt 31 y) (sound .status) }
+  leaving-kept y z hy hz = record { y = hy; q = hq; status = good-z z _ hz (good-n (signOf 32 y) (x .status) (bit-lt 31 y) (sound .status)) }
 
   whole-kept : (y : ℕ) → y < 2 ^ 32 → Kept (wholeResult x y)
-  whole-kept y hy = leaving-kept y (zeroOf 32 y) hy (zero-lt 32 y)
+  whole-kept y hy = leaving-kept y (zeroOf 32 y) hy (zero-flag 32 y)
 
   extracted-lt : (s : ℕ) → extracted x s < 2
   extracted-lt s = mod-lt (bitOf (placeOf x) s + sixthOf x) (lit< tt)
@@ -80,12 +65,12 @@ module _ (x : Inputs) (sound : Sound x) (hq : x .q < 2 ^ 32) where
       record {
         y = word (extracted x s) (extracted-lt s);
         q = hq;
-        status = good-l (extracted x s) (withZ (zeroOf 32 (extracted x s)) (x .status)) (extracted-lt s) (good-z (zeroOf 32 (extracted x s)) (x .status) (zero-lt 32 (extracted x s)) (sound .status));
+        status = good-l (extracted x s) (withZ (zeroOf 32 (extracted x s)) (x .status)) (extracted-lt s) (good-z (zeroOf 32 (extracted x s)) (x .status) (zero-flag 32 (extracted x s)) (sound .status));
       }
 
   pub putInto-kept : (s f z : ℕ) → s < 2 ^ 32 → f < 2 → z < 2 → Kept (putInto x s f z)
   unfolding putInto
-  putInto-kept s f z hs hf hz = leaving-kept (putBit (placeOf x) f s) z (put-lt (placeOf x) f s place-lt hf hs) hz
+  putInto-kept s f z hs hf hz = leaving-kept (putBit (placeOf x) f s) z (put-bit-lt (placeOf x) f s place-lt hf hs) hz
 
   pub putStatus-kept : (f : ℕ) → Kept (putStatus x f)
   unfolding putStatus
@@ -102,7 +87,7 @@ module _ (x : Inputs) (sound : Sound x) (hq : x .q < 2 ^ 32) where
   pub inField-kept : (field r u : ℕ) → r < 2 ^ 32 → u < 2 ^ 32 → Kept (inField x field r u)
   unfolding inField
   inField-kept field r u hr hu =
-      leaving-kept (maskedOf field r u) (zeroOf 32 (bitAnd (maskedOf field r u) field)) (masked-lt field r u hr hu) (zero-lt 32 (bitAnd (maskedOf field r u) field))
+      leaving-kept (maskedOf field r u) (zeroOf 32 (bitAnd (maskedOf field r u) field)) (masked-lt field r u hr hu) (zero-flag 32 (bitAnd (maskedOf field r u) field))
 
   pub extractPair-kept : (high low : ℕ) → Kept (extractPair x high low)
   unfolding extractPair
@@ -112,22 +97,12 @@ module _ (x : Inputs) (sound : Sound x) (hq : x .q < 2 ^ 32) where
   unfolding PASS-MASK
   PASS-MASK-kept =
       record {
-        y = choose-lt (sixthOf x) (alignedField x) (notOf (alignedField x)) (2 ^ 32) (field-lt (placeOf x) (widthOf x)) (not-lt (alignedField x));
+        y = choose-lt (sixthOf x) (alignedField x) (notOf (alignedField x)) (2 ^ 32) (mask-lt (placeOf x) (widthOf x)) (not-lt (alignedField x));
         q = hq;
         status = sound .status;
       }
 
 -- ---- all 32 at once
-infixr 5 _and_
-data AllKept (x : Inputs) : List (Inputs → Outputs) → Type 0 where
-  none : AllKept x []
-  _and_ : {op : Inputs → Outputs} {ops : List (Inputs → Outputs)} → Kept (op x) → AllKept x ops → AllKept x (op ∷ ops)
-
-kept-at : (x : Inputs) (ops : List (Inputs → Outputs)) (d : Inputs → Outputs) → AllKept x ops → Kept (d x) → (k : ℕ) → Kept (getD ops k d x)
-kept-at x [] d none h k = h
-kept-at x (op ∷ ops) d (l and all) h zero = l
-kept-at x (op ∷ ops) d (l and all) h (suc k) = kept-at x ops d all h k
-
 module _ (x : Inputs) (sound : Sound x) (ha : x .a < 2 ^ 32) (hb : x .b < 2 ^ 32) (hq : x .q < 2 ^ 32) where
   sign-filled : (s : ℕ) → s < 2 ^ 32 → Kept (shift x s (signOf 32 s))
   sign-filled s hs = shift-kept x sound hq s (signOf 32 s) hs (bit-lt 31 s)
@@ -148,21 +123,27 @@ module _ (x : Inputs) (sound : Sound x) (ha : x .a < 2 ^ 32) (hb : x .b < 2 ^ 32
   extract-kept : (s : ℕ) → s < 2 ^ 32 → Kept (inField x (movedField x) (moved x s) 0)
   extract-kept s hs = inField-kept x sound hq (movedField x) (moved x s) 0 (moved-lt x sound hq s hs) (lit< tt)
 
-  pub fields-kept : (k : ℕ) → Kept (getD fields k NB-SN-SHA x)
+  pub fields-kept : (k : ℕ) → Kept (getD fields k PASS-MASK x)
   fields-kept =
       let A : ℕ = x .a in
       let B : ℕ = x .b in
       let M : ℕ = moved x A in
       let hm : M < 2 ^ 32 = moved-lt x sound hq A ha in
-      kept-at x fields NB-SN-SHA
-      (sign-filled A ha and sign-filled B hb and zero-filled A ha and zero-filled B hb and rotate-kept x sound hq A ha and rotate-kept x sound hq B hb
-      and extractBit-kept x sound hq A and extractBit-kept x sound hq B
-      and set-kept A ha and set-kept B hb and reset-kept A ha and reset-kept B hb and putStatus-kept x sound hq 1 and putStatus-kept x sound hq 0
-      and over-b (alignedField x) (notOf B) (not-lt B) and over-b (alignedField x) B hb
-      and over-b (movedField x) (notOf M) (not-lt M) and over-b (alignedField x) (notOf A) (not-lt A) and over-b (movedField x) M hm and over-b (alignedField x) A ha
-      and over-b (movedField x) (bitOr M B) (or-lt 32 M B hm hb) and over-b (alignedField x) (bitOr A B) (or-lt 32 A B ha hb)
-      and over-b (movedField x) (bitXor M B) (xor-lt 32 M B hm hb) and over-b (alignedField x) (bitXor A B) (xor-lt 32 A B ha hb)
-      and over-b (movedField x) (bitAnd M B) (and-lt 32 M B hm hb) and over-b (alignedField x) (bitAnd A B) (and-lt 32 A B ha hb)
-      and extract-kept A ha and extract-kept B hb and extractPair-kept x sound hq A B and extractPair-kept x sound hq B A
-      and EXTBIT-STAT-kept x sound hq and PASS-MASK-kept x sound hq and none)
-      (sign-filled A ha)
+      kept-at x fields PASS-MASK
+      (sign-filled A ha, (sign-filled B hb,
+      (zero-filled A ha, (zero-filled B hb,
+      (rotate-kept x sound hq A ha, (rotate-kept x sound hq B hb,
+      (extractBit-kept x sound hq A, (extractBit-kept x sound hq B,
+      (set-kept A ha, (set-kept B hb,
+      (reset-kept A ha, (reset-kept B hb,
+      (putStatus-kept x sound hq 1, (putStatus-kept x sound hq 0,
+      (over-b (alignedField x) (notOf B) (not-lt B), (over-b (alignedField x) B hb,
+      (over-b (movedField x) (notOf M) (not-lt M), (over-b (alignedField x) (notOf A) (not-lt A),
+      (over-b (movedField x) M hm, (over-b (alignedField x) A ha,
+      (over-b (movedField x) (bitOr M B) (or-lt 32 M B hm hb), (over-b (alignedField x) (bitOr A B) (or-lt 32 A B ha hb),
+      (over-b (movedField x) (bitXor M B) (xor-lt 32 M B hm hb), (over-b (alignedField x) (bitXor A B) (xor-lt 32 A B ha hb),
+      (over-b (movedField x) (bitAnd M B) (and-lt 32 M B hm hb), (over-b (alignedField x) (bitAnd A B) (and-lt 32 A B ha hb),
+      (extract-kept A ha, (extract-kept B hb,
+      (extractPair-kept x sound hq A B, (extractPair-kept x sound hq B A,
+      (EXTBIT-STAT-kept x sound hq, (PASS-MASK-kept x sound hq, tt))))))))))))))))))))))))))))))))
+      (PASS-MASK-kept x sound hq)

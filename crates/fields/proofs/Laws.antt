@@ -1,6 +1,6 @@
 -- What the code's tests, shifts and rotates are in the definitions' words. Assumes nothing.
 use mathlib.Core.Path.{_≡_, refl, sym, ap, ap₂, _∙_, subst}
-use Prim.Native.Nat.{ℕ, zero, suc, _+_, _-_, _*_, _/_, _%_, _^_, _≤_, _<_, zero-le}
+use Prim.Native.Nat.{ℕ, zero, suc, _+_, _-_, _*_, _/_, _%_, _^_, _≤_, _<_}
 use native.Mathlib.Nat.{lt-of-lt-of-le, zero-mul, one-mul, mul-mod-left, add-zero, mul-one, mod-eq-of-lt, div-eq-of-lt}
 use native.Mathlib.Omega.{arith}
 use lib.Pow.{pow-pos, pow-mono, shr-lt, shr-le, shr-shr, shl-shr, mod-pow-add}
@@ -99,12 +99,3 @@ pair-either x p v e h =
     either : (f a b : ℕ) → a ≡ b → a ≡ choose f a b
     either zero a b e = refl
     either (suc f) a b e = e
-
--- ---- the default of a match whose keys are 0 to n - 1, the last arm's key first
-abbrev pub NoneBelow : ℕ → ℕ → Type 0
-NoneBelow x zero = Unit
-NoneBelow x (suc n) = NoneBelow x n × (x ≡ n → ⊥)
-
-pub past : (x n : ℕ) → NoneBelow x n → n ≤ x
-past x zero r = zero-le
-past x (suc n) r = let h : n ≤ x = past x n (r .0) in let ne : x ≡ n → ⊥ = r .1 in omega arith

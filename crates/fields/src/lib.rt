@@ -8,16 +8,14 @@ mod position;
 use machine::Inputs;
 use machine::Outputs;
 ghost use mathlib.Core.Path.{_≡_};
-ghost use Prim.Native.Nat.{_<_};
 ghost use lib.ListN.{getD};
 ghost use Rattle.machine.specs.Inputs.{Sound};
-ghost use Rattle.fields.specs.NBit.{NB-SN-SHA};
-ghost use Rattle.fields.specs.Field.{fields};
+ghost use Rattle.fields.specs.Field.{fields, PASS-MASK};
 
 // Opcode 60 + k, in hexadecimal. The arms only call and return.
 pub fn field(k: u32, x: Inputs) -> Outputs
-    requires { ⌜ Sound x × (k < 32) ⌝ }
-    ensures { λ r. ⌜ r ≡ getD fields k NB-SN-SHA x ⌝ }
+    requires { ⌜ Sound x ⌝ }
+    ensures { λ r. ⌜ r ≡ getD fields k PASS-MASK x ⌝ }
 {
     match k {
         0x00 => nbit::shift(x, x.a, bits::sign(x.a, 32)), // 60 NB-SN-SHA

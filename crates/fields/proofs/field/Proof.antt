@@ -1,7 +1,8 @@
--- Each arm's call gives the definition at its number; the last arm's number is past the others' and below 32. Assumes nothing.
-use native.Mathlib.Omega.{arith}
-use Rattle.fields.proofs.Laws.{past}
-use mathlib.Core.Path.{_≡_}
+-- Each arm's call gives the definition at its number; the last arm's is the table's last, and its default. Assumes nothing.
+use mathlib.Core.Path.{_≡_, refl}
+use lib.ListN.{getD}
+use Rattle.bits.proofs.Rest.{past-below, from-last}
+use Rattle.fields.specs.Field.{fields, PASS-MASK}
 use borrow.Author.Needs.{needs}
 use Rattle.fields.proofs.field.Statement.{statement}
 use Rattle.fields.proofs.field.Tie as tie
@@ -218,7 +219,8 @@ returns-31 c = rw (c .extract-status .ensures, c .before .match .keys31)
 
 returns-32 : tie.Need-returns-32
 returns-32 c =
-    let e : c .before .before .args .k ≡ 31 = omega (arith, past (c .before .before .args .k) 31 (c .before .match .rest)) in
+    let k = c .before .before .args .k in
+    let e : getD fields k PASS-MASK ≡ PASS-MASK = from-last fields PASS-MASK 31 k refl (past-below k 31 (c .before .match .rest)) in
     rw (c .pass-mask .ensures, e)
 
 pub field-spec : {M : Type 1} → statement M

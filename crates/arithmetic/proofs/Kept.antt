@@ -1,0 +1,72 @@
+-- Every arithmetic instruction leaves words and a status register in range. Assumes nothing.
+use Prim.Native.Nat.{ℕ, _+_, _-_, _/_, _^_, _<_}
+use native.Mathlib.Omega.{arith}
+use Rattle.bits.specs.Bits.{xor, notOf, carryOf}
+use Rattle.bits.proofs.BitByBit.{bit-lt}
+use Rattle.machine.specs.declared.Inputs.{Inputs}
+use Rattle.machine.specs.Inputs.{bitsOf, Sound, Kept}
+use Rattle.arithmetic.specs.Nibbles.{nibbleCarries, nibbleBorrows, sixes}
+use Rattle.arithmetic.specs.Arithmetic.{added, sum, difference}
+use Rattle.arithmetic.specs.Decimal.{topNibble, nextNibble, corrected, sumCorrect, diffCorrect}
+use Rattle.arithmetic.proofs.Bounds.{merged-lt, zero-flag, sign-flag, xor-flag, overflow-flag, bits-range, carries-lt, borrows-lt}
+
+module _ (x : Inputs) (s : Sound x) (lq : x .q < 2 ^ 32) where
+  added-kept : (p r c i nibbles u : ℕ) → nibbles < 256 → u < 2 ^ 32 → Kept (added x p r c i nibbles u)
+  added-kept p r c i nibbles u h l =
+      record {
+        y = merged-lt (bitsOf x) (p + r + c) u (bits-range x s .1) l;
+        q = lq;
+        status =
+            record {
+              position = s .status .position;
+              width = s .status .width;
+              c = xor-flag (carryOf (bitsOf x) p r c) i;
+              n = sign-flag (bitsOf x) (p + r + c);
+              v = overflow-flag (bitsOf x) p r c;
+              z = zero-flag (bitsOf x) (p + r + c);
+              l = s .status .l;
+              m = s .status .m;
+              s = s .status .s;
+              nibbles = h;
+            };
+      }
+
+  pub sum-kept : (p r c i u : ℕ) → u < 2 ^ 32 → Kept (sum x p r c i u)
+  unfolding sum
+  sum-kept p r c i u l = added-kept p r c i (nibbleCarries 8 p r c) u (carries-lt 8 p r c) l
+
+  pub difference-kept : (p r c u : ℕ) → u < 2 ^ 32 → Kept (difference x p r c u)
+  unfolding difference
+  difference-kept p r c u l = added-kept p (notOf r) c (x .borrow) (nibbleBorrows 8 p r (1 - c)) u (borrows-lt 8 p r (1 - c)) l
+
+  corrected-kept : (r c o : ℕ) → c < 2 → o < 2 ^ 32 → Kept (corrected x r c o)
+  corrected-kept r c o h l =
+      record {
+        y = merged-lt (bitsOf x) r o (bits-range x s .1) l;
+        q = lq;
+        status =
+            record {
+              position = s .status .position;
+              width = s .status .width;
+              c = h;
+              n = sign-flag (bitsOf x) r;
+              v = xor-flag (topNibble x) (nextNibble x);
+              z = zero-flag (bitsOf x) r;
+              l = s .status .l;
+              m = s .status .m;
+              s = s .status .s;
+              nibbles = s .status .nibbles;
+            };
+      }
+
+  pub sum-correct-kept : (o : ℕ) → o < 2 ^ 32 → Kept (sumCorrect x o)
+  unfolding sumCorrect
+  sum-correct-kept o l = corrected-kept (o + sixes 8 (x .status .nibbles)) (topNibble x) o (bit-lt (bitsOf x / 4 - 1) (x .status .nibbles)) l
+
+  pub diff-correct-kept : (o : ℕ) → o < 2 ^ 32 → Kept (diffCorrect x o)
+  unfolding diffCorrect
+  diff-correct-kept o l =
+      corrected-kept (o + notOf (sixes 8 (x .status .nibbles)) + 1) (1 - xor (topNibble x) (x .borrow)) o (below (xor (topNibble x) (x .borrow))) l
+    where
+      below : (f : ℕ) → 1 - f < 2
+      below f = omega arith

@@ -1,0 +1,5 @@
+pub mod Chains
+pub mod Bounds
+pub mod Wrapped
+pub mod Kept
+pub mod Examples
