@@ -1,16 +1,16 @@
 -- The nibble bits of a sum and of a difference, read off one wide sum: where it differs from its operands at bits 4, 8, .., a carry or a borrow
 -- came out of the nibble below. Assumes nothing.
-use mathlib.Core.Path.{_≡_, refl, sym, ap, ap₂, _∙_, subst}
+use mathlib.Core.Path.{_≡_, refl, sym, ap, ap₂, _∙_}
 use mathlib.Core.Bool.{Bool, true, false}
 use Prim.Native.Nat.{ℕ, zero, suc, _+_, _-_, _*_, _/_, _%_, _^_, _≤_, _<_}
-use native.Mathlib.Nat.{mod-lt, pow-suc}
+use native.Mathlib.Nat.{mod-lt}
 use native.Mathlib.Omega.{arith}
 use lib.Dec.{ltb, leb}
 use lib.Arith.{digits-div, digits-mod}
 use lib.Pow.{pow-pos, split, shr-shr}
 use lib.Bits.{bitAnd, bitXor, and-mask, and-block, and-zero-r, xor-shr}
-use borrow.Author.Tests.{ltb-true, ltb-false, leb-true, leb-false, le-leb, lt-leb, lt-ltb, le-ltb}
-use Rattle.bits.specs.Bits.{flag, pick, bitOf}
+use borrow.Author.Tests.{ltb-true, ltb-false, leb-true, leb-false, lt-leb, lt-ltb, le-ltb}
+use Rattle.bits.specs.Bits.{flag, bitOf}
 use Rattle.bits.proofs.Laws.{and-bit}
 use Rattle.bits.proofs.BitByBit.{bit-xor}
 use Rattle.arithmetic.specs.Nibbles.{nibbleCarries, nibbleBorrows, sixes}
@@ -21,8 +21,11 @@ by-test : (P : ℕ → Type 0) (t : Bool) → (t ≡ true → P 1) → (t ≡ fa
 by-test P true p q = p refl
 by-test P false p q = q refl
 
+pub flag-lt : (t : Bool) → flag t < 2
+flag-lt t = by-test (λ (f : ℕ). f < 2) t (λ e. omega arith) (λ e. omega arith)
+
 -- a threshold as a quotient
-pub reach : (h s : ℕ) → h ≤ 128 → s < 128 → (s + (128 - h)) / 128 ≡ flag (leb h s)
+reach : (h s : ℕ) → h ≤ 128 → s < 128 → (s + (128 - h)) / 128 ≡ flag (leb h s)
 reach h s l m =
     by-test (λ (f : ℕ). (s + (128 - h)) / 128 ≡ f) (leb h s)
     (λ e. let g : h ≤ s = leb-true h s e in omega arith)
@@ -91,10 +94,7 @@ step a b c h =
 
 makes-lt : (h a b : ℕ) → makes h a b < 2
 unfolding makes
-makes-lt h a b = by-test (λ (f : ℕ). f < 2) (leb h (a % 16 + b % 16)) (λ e. omega arith) (λ e. omega arith)
-
-pub flag-lt : (t : Bool) → flag t < 2
-flag-lt t = by-test (λ (f : ℕ). f < 2) t (λ e. omega arith) (λ e. omega arith)
+makes-lt h a b = flag-lt (leb h (a % 16 + b % 16))
 
 -- a digit below 16 under others
 above : (x p : ℕ) → x < 2 → (x + 16 * p) / 16 ≡ p

@@ -5,9 +5,8 @@ pub mod nibbles; // nibbles.rt: the nibble bits and the correction word
 use machine::Inputs;
 use machine::Outputs;
 ghost use mathlib.Core.Path.{_≡_};
-ghost use Prim.Native.Nat.{ℕ, _+_, _%_, _^_, _<_};
+ghost use Prim.Native.Nat.{_+_, _%_, _^_, _<_};
 ghost use lib.ListN.{getD};
-ghost use Rattle.bits.specs.Bits.{notOf};
 ghost use Rattle.machine.specs.Inputs.{Sound};
 ghost use Rattle.arithmetic.specs.Arithmetic.{added, sum, difference, increment, decrement, negate, ADD, ADDC, SUB, SUBC, SUBR, SUBRC};
 ghost use Rattle.arithmetic.specs.Decimal.{corrected, topNibble, sumCorrect, diffCorrect, decimals, SUM-CORR-A};

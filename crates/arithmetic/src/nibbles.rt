@@ -1,7 +1,7 @@
 // Leaves: the nibble bits, STATUS <31:24>, and the correction word (appendix A). Every sum and difference has nibble bits, so all eight are
 // worked out at once, in straight-line code. Public for the crates above.
 ghost use mathlib.Core.Path.{_≡_};
-ghost use Prim.Native.Nat.{ℕ, _+_, _*_, _/_, _%_, _^_, _<_, _≤_};
+ghost use Prim.Native.Nat.{_+_, _*_, _/_, _%_, _^_, _<_, _≤_};
 ghost use lib.Dec.{leb};
 ghost use Rattle.bits.specs.Bits.{flag};
 ghost use Rattle.arithmetic.specs.Nibbles.{nibbleCarries, nibbleBorrows, sixes};

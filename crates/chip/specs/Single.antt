@@ -25,7 +25,7 @@ noPage no-page = true
 -- byte code above 3, position above 63, width above 31, a switch above 1
 unfoldable pub outOfRange : ℕ → ℕ → ℕ → ℕ → ℕ → ℕ → ℕ → Bool
 outOfRange code position width select carry link borrow =
-    ltb 3 code || (ltb 63 position || (ltb 31 width || (ltb 1 select || (ltb 1 carry || (ltb 1 link || ltb 1 borrow)))))
+    ltb 3 code || ltb 63 position || ltb 31 width || ltb 1 select || ltb 1 carry || ltb 1 link || ltb 1 borrow
 
 abbrev pub singleRows : SingleWord → List Row
 singleRows s =

@@ -167,29 +167,17 @@ pub fn decode(n: u32) -> Decoded
     }
 }
 
-// A byte code, a position, a width or a switch that is too large.
+// A byte code, a position, a width or a switch that is too large. `|` tests all, without a branch for each.
 fn out_of_range(s: SingleWord) -> bool
     ensures { λ r. ⌜ r ≡ outOfRange (s .code) (s .position) (s .width) (s .select) (s .carry) (s .link) (s .borrow) ⌝ }
 {
-    if 3 < s.code {
-        return true;
-    }
-    if 63 < s.position {
-        return true;
-    }
-    if 31 < s.width {
-        return true;
-    }
-    if 1 < s.select {
-        return true;
-    }
-    if 1 < s.carry {
-        return true;
-    }
-    if 1 < s.link {
-        return true;
-    }
-    1 < s.borrow
+    (3 < s.code)
+        | (63 < s.position)
+        | (31 < s.width)
+        | (1 < s.select)
+        | (1 < s.carry)
+        | (1 < s.link)
+        | (1 < s.borrow)
 }
 
 // A refusal repeats Q and status as they were handed in.

@@ -1,5 +1,4 @@
 -- Y, Z and N are of the wrapped sum, which is the sum in the selected bytes; C and V as the leaves give them. Assumes nothing.
-use mathlib.Core.Path.{_∙_}
 use native.Mathlib.Omega.{arith}
 use Prim.Native.Nat.{ℕ, _+_}
 use Rattle.bits.specs.Bits.{xor, carryOf, overflowOf}

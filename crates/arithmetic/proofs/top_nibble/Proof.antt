@@ -1,7 +1,6 @@
 -- The bit that the width names. Assumes nothing.
-use mathlib.Core.Path.{_≡_, ap, _∙_, sym, subst}
-use Prim.Native.Nat.{ℕ, _-_, _/_, _<_}
-use Rattle.bits.specs.Bits.{bitOf}
+use mathlib.Core.Path.{_∙_, sym, subst}
+use Prim.Native.Nat.{ℕ, _<_}
 use Rattle.bits.proofs.BitByBit.{bit-lt}
 use borrow.Author.Needs.{needs}
 use Rattle.arithmetic.proofs.top_nibble.Statement.{statement}
