@@ -13,6 +13,7 @@ use borrow.Author.Tests.{ltb-true, ltb-false, leb-true, leb-false, lt-leb, lt-lt
 use Rattle.bits.specs.Bits.{flag, bitOf}
 use Rattle.bits.proofs.Laws.{and-bit}
 use Rattle.bits.proofs.BitByBit.{bit-xor}
+use Rattle.bits.proofs.Bounds.{flag-lt}
 use Rattle.arithmetic.specs.Nibbles.{nibbleCarries, nibbleBorrows, sixes}
 
 -- ---- tests as flags
@@ -20,9 +21,6 @@ use Rattle.arithmetic.specs.Nibbles.{nibbleCarries, nibbleBorrows, sixes
 by-test : (P : ℕ → Type 0) (t : Bool) → (t ≡ true → P 1) → (t ≡ false → P 0) → P (flag t)
 by-test P true p q = p refl
 by-test P false p q = q refl
-
-pub flag-lt : (t : Bool) → flag t < 2
-flag-lt t = by-test (λ (f : ℕ). f < 2) t (λ e. omega arith) (λ e. omega arith)
 
 -- a threshold as a quotient
 reach : (h s : ℕ) → h ≤ 128 → s < 128 → (s + (128 - h)) / 128 ≡ flag (leb h s)

@@ -1,26 +1,29 @@
 -- Every arithmetic instruction leaves words and a status register in range. Assumes nothing.
 use Prim.Native.Nat.{ℕ, _+_, _-_, _/_, _^_, _<_}
 use native.Mathlib.Omega.{arith}
+use lib.ListN.{getD}
 use Rattle.bits.specs.Bits.{xor, notOf, carryOf}
 use Rattle.bits.proofs.BitByBit.{bit-lt}
+use Rattle.bits.proofs.Bounds.{xor-lt, zero-flag, sign-flag, overflow-flag, merged-lt}
 use Rattle.machine.specs.declared.Inputs.{Inputs}
 use Rattle.machine.specs.Inputs.{bitsOf, Sound, Kept}
+use Rattle.machine.proofs.Kept.{bits-le, kept-at}
 use Rattle.arithmetic.specs.Nibbles.{nibbleCarries, nibbleBorrows, sixes}
 use Rattle.arithmetic.specs.Arithmetic.{added, sum, difference}
-use Rattle.arithmetic.specs.Decimal.{topNibble, nextNibble, corrected, sumCorrect, diffCorrect}
-use Rattle.arithmetic.proofs.Bounds.{merged-lt, zero-flag, sign-flag, xor-flag, overflow-flag, bits-range, carries-lt, borrows-lt}
+use Rattle.arithmetic.specs.Decimal.{topNibble, nextNibble, corrected, sumCorrect, diffCorrect, DIFF-CORR-B, decimals}
+use Rattle.arithmetic.proofs.Bounds.{carries-lt, borrows-lt}
 
 module _ (x : Inputs) (s : Sound x) (lq : x .q < 2 ^ 32) where
   added-kept : (p r c i nibbles u : ℕ) → nibbles < 256 → u < 2 ^ 32 → Kept (added x p r c i nibbles u)
   added-kept p r c i nibbles u h l =
       record {
-        y = merged-lt (bitsOf x) (p + r + c) u (bits-range x s .1) l;
+        y = merged-lt (bitsOf x) (p + r + c) u (bits-le x s) l;
         q = lq;
         status =
             record {
               position = s .status .position;
               width = s .status .width;
-              c = xor-flag (carryOf (bitsOf x) p r c) i;
+              c = xor-lt (carryOf (bitsOf x) p r c) i;
               n = sign-flag (bitsOf x) (p + r + c);
               v = overflow-flag (bitsOf x) p r c;
               z = zero-flag (bitsOf x) (p + r + c);
@@ -42,7 +45,7 @@ module _ (x : Inputs) (s : Sound x) (lq : x .q < 2 ^ 32) where
   corrected-kept : (r c o : ℕ) → c < 2 → o < 2 ^ 32 → Kept (corrected x r c o)
   corrected-kept r c o h l =
       record {
-        y = merged-lt (bitsOf x) r o (bits-range x s .1) l;
+        y = merged-lt (bitsOf x) r o (bits-le x s) l;
         q = lq;
         status =
             record {
@@ -50,7 +53,7 @@ module _ (x : Inputs) (s : Sound x) (lq : x .q < 2 ^ 32) where
               width = s .status .width;
               c = h;
               n = sign-flag (bitsOf x) r;
-              v = xor-flag (topNibble x) (nextNibble x);
+              v = xor-lt (topNibble x) (nextNibble x);
               z = zero-flag (bitsOf x) r;
               l = s .status .l;
               m = s .status .m;
@@ -70,3 +73,10 @@ module _ (x : Inputs) (s : Sound x) (lq : x .q < 2 ^ 32) where
     where
       below : (f : ℕ) → 1 - f < 2
       below f = omega arith
+
+  -- the family
+  pub decimals-kept : x .a < 2 ^ 32 → x .b < 2 ^ 32 → (k : ℕ) → Kept (getD decimals k DIFF-CORR-B x)
+  decimals-kept ha hb k =
+      kept-at x decimals DIFF-CORR-B
+      (sum-correct-kept (x .a) ha, (sum-correct-kept (x .b) hb, (diff-correct-kept (x .a) ha, (diff-correct-kept (x .b) hb, tt))))
+      (diff-correct-kept (x .b) hb) k

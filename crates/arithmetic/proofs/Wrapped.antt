@@ -7,11 +7,11 @@ use Rattle.bits.proofs.Laws.{merged-wrap, zero-wrap, bit-wrap}
 use Rattle.machine.specs.declared.Inputs.{Inputs}
 use Rattle.machine.specs.declared.Status.{Status}
 use Rattle.machine.specs.Inputs.{bitsOf, leaving, zeroSign, Sound}
-use Rattle.arithmetic.proofs.Bounds.{bits-range}
+use Rattle.bits.proofs.Bounds.{selected-bounds}
 
 -- whatever else f does to the status register
 pub wrapped : (x : Inputs) (r u : ℕ) (f : Status → Status) → Sound x
     → leaving x (merged (bitsOf x) (r % 2 ^ 32) u) (f (zeroSign (bitsOf x) (r % 2 ^ 32) (x .status))) ≡ leaving x (merged (bitsOf x) r u) (f (zeroSign (bitsOf x) r (x .status)))
 wrapped x r u f s =
-    let (low, high) = bits-range x s in
+    let (low, high) = selected-bounds (x .code) (s .code) in
     rw (merged-wrap (bitsOf x) r u high, zero-wrap (bitsOf x) r high, bit-wrap (bitsOf x - 1) r (omega arith))

@@ -9,7 +9,7 @@ ghost use Prim.Native.Nat.{_+_, _%_, _^_, _<_};
 ghost use lib.ListN.{getD};
 ghost use Rattle.machine.specs.Inputs.{Sound};
 ghost use Rattle.arithmetic.specs.Arithmetic.{added, sum, difference, increment, decrement, negate, ADD, ADDC, SUB, SUBC, SUBR, SUBRC};
-ghost use Rattle.arithmetic.specs.Decimal.{corrected, topNibble, sumCorrect, diffCorrect, decimals, SUM-CORR-A};
+ghost use Rattle.arithmetic.specs.Decimal.{corrected, topNibble, sumCorrect, diffCorrect, decimals, DIFF-CORR-B};
 
 // What a sum p + r + c leaves, from its wrapped value s: cut to the selected bytes, C and V worked out apart. C is inverted where i is 1.
 fn added(x: Inputs, p: u32, r: u32, c: u32, i: u32, s: u32, nibbles: u32, u: u32) -> Outputs
@@ -170,8 +170,8 @@ pub fn diff_correct(x: Inputs, s: u32) -> Outputs
 
 // The decimal corrections, from opcode 48 on.
 pub fn decimal(k: u32, x: Inputs) -> Outputs
-    requires { ⌜ Sound x × (k < 4) ⌝ }
-    ensures { λ r. ⌜ r ≡ getD decimals k SUM-CORR-A x ⌝ }
+    requires { ⌜ Sound x ⌝ }
+    ensures { λ r. ⌜ r ≡ getD decimals k DIFF-CORR-B x ⌝ }
 {
     match k {
         0 => sum_correct(x, x.a),

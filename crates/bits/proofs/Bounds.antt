@@ -9,7 +9,7 @@ use lib.Bits.{bitAnd, and-le-l, or-lt}
 use lib.Count.{leadingZeros, leading-le}
 use lib.Dec.{eqb, lit<}
 use lib.Pow.{pow-pos, pow-add, pow-mono, shr-lt, ones-sub-lt}
-use Rattle.bits.specs.Bits.{pick, choose, flag, xor, selected, bitOf, signOf, zeroOf, merged, notOf, copies, upBy, rotatedUp, fieldMask, maskedOf, putBit, priorityOf}
+use Rattle.bits.specs.Bits.{pick, choose, flag, xor, selected, bitOf, signOf, zeroOf, merged, notOf, copies, carryOf, overflowOf, upBy, rotatedUp, fieldMask, maskedOf, putBit, priorityOf}
 
 pub selected-bounds : (code : ℕ) → code < 4 → (8 ≤ selected code) × (selected code ≤ 32)
 selected-bounds zero h = (omega arith, omega arith)
@@ -28,6 +28,10 @@ zero-flag n x = flag-lt (eqb (x % 2 ^ n) 0)
 
 pub sign-flag : (n x : ℕ) → signOf n x < 2
 sign-flag n x = mod-lt (x / 2 ^ (n - 1)) (lit< tt)
+
+pub overflow-flag : (n a b c : ℕ) → overflowOf n a b c < 2
+unfolding overflowOf
+overflow-flag n a b c = xor-lt (carryOf (n - 1) a b c) (carryOf n a b c)
 
 -- a number in two parts, the upper one's bits and n below
 below : (n hi lo : ℕ) → n ≤ 32 → hi < 2 ^ (32 - n) → lo < 2 ^ n → hi * 2 ^ n + lo < 2 ^ 32

@@ -1,6 +1,10 @@
 -- The list's entry at the matched number. Assumes nothing.
-use mathlib.Core.Path.{_≡_, _∙_}
+use mathlib.Core.Path.{_≡_, refl, _∙_}
+use Prim.Native.Nat.{_≤_}
 use native.Mathlib.Omega.{arith}
+use lib.ListN.{getD}
+use Rattle.bits.proofs.Rest.{from-last}
+use Rattle.arithmetic.specs.Decimal.{DIFF-CORR-B, decimals}
 use borrow.Author.Needs.{needs}
 use Rattle.arithmetic.proofs.decimal.Statement.{statement}
 use Rattle.arithmetic.proofs.decimal.Tie as tie
@@ -28,7 +32,9 @@ returns-3 c = c .diff-correct .ensures ∙ rw (c .before .match .keys3)
 
 returns-4 : tie.Need-returns-4
 returns-4 c =
-    let e : c .before .before .args .k ≡ 3 = omega arith in
+    let k = c .before .before .args .k in
+    let h : 3 ≤ k = omega arith in
+    let e : getD decimals k DIFF-CORR-B ≡ DIFF-CORR-B = from-last decimals DIFF-CORR-B 3 k refl h in
     c .diff-correct2 .ensures ∙ rw e
 
 pub decimal-spec : {M : Type 1} → statement M
