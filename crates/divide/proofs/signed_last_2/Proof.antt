@@ -1,0 +1,47 @@
+-- The divisor's sign says whether A is added or its complement. Assumes nothing.
+use Rattle.bits.proofs.Laws.{merged-wrap, zero-wrap}
+use Rattle.divide.specs.Divide.{SDIVLAST2}
+use Rattle.machine.proofs.Kept.{bits-le}
+use borrow.Author.Needs.{needs}
+use Rattle.divide.proofs.signed_last_2.Statement.{statement}
+use Rattle.divide.proofs.signed_last_2.Tie as tie
+
+sign-q-requires : tie.Need-sign-q-requires
+sign-q-requires c κs = search needs
+
+add-sign : tie.Need-add-sign
+add-sign c = search needs
+
+operand-requires : tie.Need-operand-requires
+operand-requires c κs = search needs
+
+add-requires : tie.Need-add-requires
+add-requires c κs = search needs
+
+zero-if-negative-requires : tie.Need-zero-if-negative-requires
+zero-if-negative-requires c κs = search needs
+
+bits-requires : tie.Need-bits-requires
+bits-requires c κs = search needs
+
+merge-requires : tie.Need-merge-requires
+merge-requires c κs = search needs
+
+returns : tie.Need-returns
+unfolding SDIVLAST2
+returns c =
+    let h = bits-le (c .before .before .before .before .before .before .before .before .args .x) (c .before .before .before .before .before .before .before .before .pre) in
+    rw (c .merge .ensures, c .before .bits .ensures .0, c .before .before .zero-if-negative .ensures, c .before .before .before .before .add .ensures, c .before .before .before .before .before .operand .ensures, c .before .before .before .before .before .before .before .sign-q .ensures .0, merged-wrap, zero-wrap)
+
+pub signed-last-2-spec : {M : Type 1} → statement M
+signed-last-2-spec =
+    tie.close
+    (tie.spec
+    sign-q-requires
+    add-sign
+    operand-requires
+    add-requires
+    zero-if-negative-requires
+    bits-requires
+    merge-requires
+    returns)

@@ -1,0 +1,37 @@
+-- The leaves on the selected bits. Assumes nothing.
+use Rattle.bits.proofs.Laws.{merged-wrap, zero-wrap}
+use Rattle.machine.proofs.Kept.{bits-le}
+use borrow.Author.Needs.{needs}
+use Rattle.divide.proofs.step_on_bytes.Statement.{statement}
+use Rattle.divide.proofs.step_on_bytes.Tie as tie
+
+bits-requires : tie.Need-bits-requires
+bits-requires c κs = search needs
+
+shift-up-requires : tie.Need-shift-up-requires
+shift-up-requires c κs = search needs
+
+is-zero-requires : tie.Need-is-zero-requires
+is-zero-requires c κs = search needs
+
+sign-requires : tie.Need-sign-requires
+sign-requires c κs = search needs
+
+merge-requires : tie.Need-merge-requires
+merge-requires c κs = search needs
+
+returns : tie.Need-returns
+returns c =
+    let h = bits-le (c .before .before .before .before .before .before .args .x) (c .before .before .before .before .before .before .pre .0) in
+    rw (c .merge .ensures, c .before .sign .ensures, c .before .before .is-zero .ensures, c .before .before .before .before .shift-up .ensures, c .before .before .before .before .before .bits .ensures .0, merged-wrap, zero-wrap)
+
+pub step-on-bytes-spec : {M : Type 1} → statement M
+step-on-bytes-spec =
+    tie.close
+    (tie.spec
+    bits-requires
+    shift-up-requires
+    is-zero-requires
+    sign-requires
+    merge-requires
+    returns)

@@ -1,0 +1,25 @@
+-- The leaves' sum and carry out, of B and the operand. Assumes nothing.
+use mathlib.Core.Path.{_∙_}
+use Rattle.bits.proofs.Laws.{carry-lt}
+use borrow.Author.Needs.{needs}
+use Rattle.divide.proofs.steps.form.Statement.{statement}
+use Rattle.divide.proofs.steps.form.Tie as tie
+
+operand-requires : tie.Need-operand-requires
+operand-requires c κs = search needs
+
+add-requires : tie.Need-add-requires
+add-requires c κs = search needs
+
+carry-requires : tie.Need-carry-requires
+carry-requires c κs = search needs
+
+returns : tie.Need-returns
+returns c = (
+  c .before .add .ensures ∙ rw (c .before .before .operand .ensures),
+  c .carry .ensures ∙ rw (c .before .before .operand .ensures),
+  rw (c .carry .ensures) (carry-lt _ _ _ _ (c .before .before .before .pre .2)),
+)
+
+pub form-spec : {M : Type 1} → statement M
+form-spec = tie.close (tie.spec operand-requires add-requires carry-requires returns)
