@@ -1,3 +1,5 @@
 pub mod Pages
 pub mod Range
+pub mod Kept
+pub mod Single
 pub mod Examples

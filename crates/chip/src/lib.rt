@@ -4,11 +4,11 @@ use machine::Outputs;
 use machine::Status;
 use reasons::Reason;
 ghost use mathlib.Core.Path.{_≡_};
-ghost use mathlib.Core.Bool.{Bool, false};
-ghost use Prim.Native.Nat.{ℕ, _<_};
+ghost use Prim.Native.Nat.{ℕ};
 ghost use Rattle.machine.specs.Inputs.{Sound};
 ghost use Rattle.chip.specs.Operations.{decodedOf, meaningOf};
 ghost use Rattle.chip.specs.declared.Decoded.the-variants.{Known};
+ghost use Rattle.chip.specs.Glossary.{performOf};
 ghost use Rattle.chip.specs.Single.{outOfRange, refusedAs, singleInputs, performed, singleOf};
 
 // The fields of one word of a sheet.
@@ -167,6 +167,62 @@ pub fn decode(n: u32) -> Decoded
     }
 }
 
+// What an operation does: each arm calls its page's function, or its family's. Public for the run above.
+pub fn perform(operation: Operation, x: Inputs) -> Outputs
+    requires { ⌜ Sound x ⌝ }
+    ensures { λ r. ⌜ r ≡ meaningOf operation x ⌝ }
+{
+    match operation {
+        Operation::ZeroExtA => movement::zero_extend(x, x.a),
+        Operation::ZeroExtB => movement::zero_extend(x, x.b),
+        Operation::SignExtA => movement::sign_extend(x, x.a),
+        Operation::SignExtB => movement::sign_extend(x, x.b),
+        Operation::PassStat => movement::pass_status(x),
+        Operation::PassQ => movement::pass_q(x),
+        Operation::LoadQA => movement::load_q(x, x.a),
+        Operation::LoadQB => movement::load_q(x, x.b),
+        Operation::NotA => movement::not(x, x.a),
+        Operation::NotB => movement::not(x, x.b),
+        Operation::NegA => arithmetic::negate(x, x.a),
+        Operation::NegB => arithmetic::negate(x, x.b),
+        Operation::PriorA => movement::prioritize(x, x.a),
+        Operation::PriorB => movement::prioritize(x, x.b),
+        Operation::MergeAB => movement::merge(x, x.a, x.b),
+        Operation::MergeBA => movement::merge(x, x.b, x.a),
+        Operation::DecrA => arithmetic::decrement(x, x.a, 1),
+        Operation::DecrB => arithmetic::decrement(x, x.b, 1),
+        Operation::IncrA => arithmetic::increment(x, x.a, 1),
+        Operation::IncrB => arithmetic::increment(x, x.b, 1),
+        Operation::Decr2A => arithmetic::decrement(x, x.a, 2),
+        Operation::Decr2B => arithmetic::decrement(x, x.b, 2),
+        Operation::Incr2A => arithmetic::increment(x, x.a, 2),
+        Operation::Incr2B => arithmetic::increment(x, x.b, 2),
+        Operation::Decr4A => arithmetic::decrement(x, x.a, 4),
+        Operation::Decr4B => arithmetic::decrement(x, x.b, 4),
+        Operation::Incr4A => arithmetic::increment(x, x.a, 4),
+        Operation::Incr4B => arithmetic::increment(x, x.b, 4),
+        Operation::LdstatA => movement::load_status(x, x.a),
+        Operation::LdstatB => movement::load_status(x, x.b),
+        Operation::Zero => movement::zero(x),
+        Operation::Sign => movement::sign(x),
+        Operation::Or => movement::or(x),
+        Operation::Xor => movement::xor(x),
+        Operation::And => movement::and(x),
+        Operation::Xnor => movement::xnor(x),
+        Operation::Add => arithmetic::add(x),
+        Operation::Addc => arithmetic::add_with_carry(x),
+        Operation::Sub => arithmetic::subtract(x),
+        Operation::Subc => arithmetic::subtract_with_carry(x),
+        Operation::Subr => arithmetic::subtract_reverse(x),
+        Operation::Subrc => arithmetic::subtract_reverse_with_carry(x),
+        Operation::Shift(k) => shifts::shift(k, x),
+        Operation::Decimal(k) => arithmetic::decimal(k, x),
+        Operation::Divide(k) => divide::divide(k, x),
+        Operation::Multiply(k) => multiply::multiply(k, x),
+        Operation::Field(k) => fields::field(k, x),
+    }
+}
+
 // A byte code, a position, a width or a switch that is too large. `|` tests all, without a branch for each.
 fn out_of_range(s: SingleWord) -> bool
     ensures { λ r. ⌜ r ≡ outOfRange (s .code) (s .position) (s .width) (s .select) (s .carry) (s .link) (s .borrow) ⌝ }
@@ -191,5 +247,62 @@ fn refuse(s: SingleWord, reason: Reason) -> SingleAnswer
         parity: 0,
         q: s.q,
         status: s.status,
+    }
+}
+
+// What stands at the chip for a single word.
+fn inputs(s: SingleWord) -> Inputs
+    ensures { λ r. ⌜ r ≡ singleInputs s ⌝ }
+{
+    Inputs {
+        code: s.code,
+        position: s.position,
+        width: s.width,
+        select: s.select,
+        carry: s.carry,
+        link: s.link,
+        borrow: s.borrow,
+        a: s.a,
+        b: s.b,
+        q: s.q,
+        status: Status::load(s.status),
+    }
+}
+
+// The answer of a word whose opcode has a page and whose inputs are in range.
+fn answer(operation: Operation, s: SingleWord) -> SingleAnswer
+    requires { ⌜ (decodedOf (s .opcode) ≡ Known operation) × Sound (singleInputs s) ⌝ }
+    ensures { λ r. ⌜ r ≡ performed (performOf (s .opcode) (singleInputs s)) ⌝ }
+{
+    let o = perform(operation, inputs(s));
+    let status = o.status;
+    SingleAnswer {
+        reason: Reason::Done,
+        place: 0,
+        y: o.y,
+        parity: bits::parity(o.y),
+        q: o.q,
+        status: status.read(),
+    }
+}
+
+// A word whose opcode has a page.
+fn admit(operation: Operation, s: SingleWord) -> SingleAnswer
+    requires { ⌜ decodedOf (s .opcode) ≡ Known operation ⌝ }
+    ensures { λ r. ⌜ r ≡ singleOf s ⌝ }
+{
+    if out_of_range(s) {
+        return refuse(s, Reason::Inputs);
+    }
+    answer(operation, s)
+}
+
+// The single word, with any values: refused with its reason, or Y, parity, Q and status.
+pub fn single_word(s: SingleWord) -> SingleAnswer
+    ensures { λ r. ⌜ r ≡ singleOf s ⌝ }
+{
+    match decode(s.opcode) {
+        Decoded::Opcode => refuse(s, Reason::Opcode),
+        Decoded::Known(operation) => admit(operation, s),
     }
 }
