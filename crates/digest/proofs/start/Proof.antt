@@ -1,0 +1,34 @@
+-- The turns left fall. Assumes nothing.
+use Prim.Native.Nat.{_-_}
+use borrow.Author.Needs.{needs}
+use Rattle.digest.proofs.start.Statement.{statement}
+use Rattle.digest.proofs.start.Tie as tie
+
+abbrev Inv-loop : tie.InvT-loop
+Inv-loop opcode x₀ k₀ x k = Unit {0}
+
+abbrev μ-loop : tie.MeasureT-loop
+μ-loop opcode x₀ k₀ x k = 16 - k
+
+loop-holds : tie.Need-loop-holds Inv-loop μ-loop
+loop-holds c = search needs
+
+next-requires : tie.Need-next-requires Inv-loop μ-loop
+next-requires c κs = search needs
+
+add-k : tie.Need-add-k Inv-loop μ-loop
+add-k c = search needs
+
+loop-less : tie.Need-loop-less Inv-loop μ-loop
+loop-less c = search needs
+
+loop-again : tie.Need-loop-again Inv-loop μ-loop
+loop-again c = search needs
+
+returns : tie.Need-returns Inv-loop μ-loop
+returns c = search needs
+
+pub start-spec : {M : Type 1} → statement M
+start-spec =
+    tie.close
+    (tie.spec Inv-loop μ-loop loop-holds next-requires add-k loop-less loop-again returns)
