@@ -5,13 +5,35 @@ use chip::SingleWord;
 ghost use Prim.Native.Nat.{_<_};
 
 const SYSTEMATIC: u32 = 73728;
+
 const CASES: u32 = 102400;
 
 // Boundary patterns.
 const PATTERNS: [u32; 24] = [
-    0x00000000, 0x00000001, 0xffffffff, 0x0000007f, 0x00000080, 0x000000ff, 0x00007fff, 0x00008000,
-    0x0000ffff, 0x007fffff, 0x00800000, 0x00ffffff, 0x7fffffff, 0x80000000, 0x55555555, 0xaaaaaaaa,
-    0x99999999, 0x9a9a9a9a, 0x00010000, 0xffff0000, 0x12345678, 0x45454545, 0x54545454, 0xfffffffe,
+    0x00000000,
+    0x00000001,
+    0xffffffff,
+    0x0000007f,
+    0x00000080,
+    0x000000ff,
+    0x00007fff,
+    0x00008000,
+    0x0000ffff,
+    0x007fffff,
+    0x00800000,
+    0x00ffffff,
+    0x7fffffff,
+    0x80000000,
+    0x55555555,
+    0xaaaaaaaa,
+    0x99999999,
+    0x9a9a9a9a,
+    0x00010000,
+    0xffff0000,
+    0x12345678,
+    0x45454545,
+    0x54545454,
+    0xfffffffe,
 ];
 
 // A case, and the generator after it.
@@ -147,8 +169,14 @@ fn fold(sum: u64, value: u32) -> u64 {
 // The sum after an answer: reason, place, Y, parity, Q and status.
 fn folded(sum: u64, answer: SingleAnswer) -> u64 {
     let reason = answer.reason;
-    let after_place = fold(fold(sum, reasons::number(reason)), (answer.place % 0x1_0000_0000) as u32);
-    fold(fold(fold(fold(after_place, answer.y), answer.parity), answer.q), answer.status)
+    let after_place = fold(
+        fold(sum, reasons::number(reason)),
+        (answer.place % 0x1_0000_0000) as u32,
+    );
+    fold(
+        fold(fold(fold(after_place, answer.y), answer.parity), answer.q),
+        answer.status,
+    )
 }
 
 // The generator as an opcode's line starts.

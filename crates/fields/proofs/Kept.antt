@@ -129,21 +129,95 @@ module _ (x : Inputs) (sound : Sound x) (ha : x .a < 2 ^ 32) (hb : x .b < 2 ^ 32
       let B : ℕ = x .b in
       let M : ℕ = moved x A in
       let hm : M < 2 ^ 32 = moved-lt x sound hq A ha in
-      kept-at x fields PASS-MASK
-      (sign-filled A ha, (sign-filled B hb,
-      (zero-filled A ha, (zero-filled B hb,
-      (rotate-kept x sound hq A ha, (rotate-kept x sound hq B hb,
-      (extractBit-kept x sound hq A, (extractBit-kept x sound hq B,
-      (set-kept A ha, (set-kept B hb,
-      (reset-kept A ha, (reset-kept B hb,
-      (putStatus-kept x sound hq 1, (putStatus-kept x sound hq 0,
-      (over-b (alignedField x) (notOf B) (not-lt B), (over-b (alignedField x) B hb,
-      (over-b (movedField x) (notOf M) (not-lt M), (over-b (alignedField x) (notOf A) (not-lt A),
-      (over-b (movedField x) M hm, (over-b (alignedField x) A ha,
-      (over-b (movedField x) (bitOr M B) (or-lt 32 M B hm hb), (over-b (alignedField x) (bitOr A B) (or-lt 32 A B ha hb),
-      (over-b (movedField x) (bitXor M B) (xor-lt 32 M B hm hb), (over-b (alignedField x) (bitXor A B) (xor-lt 32 A B ha hb),
-      (over-b (movedField x) (bitAnd M B) (and-lt 32 M B hm hb), (over-b (alignedField x) (bitAnd A B) (and-lt 32 A B ha hb),
-      (extract-kept A ha, (extract-kept B hb,
-      (extractPair-kept x sound hq A B, (extractPair-kept x sound hq B A,
-      (EXTBIT-STAT-kept x sound hq, (PASS-MASK-kept x sound hq, tt))))))))))))))))))))))))))))))))
+      kept-at x fields PASS-MASK (
+        sign-filled A ha,
+        (
+          sign-filled B hb,
+          (
+            zero-filled A ha,
+            (
+              zero-filled B hb,
+              (
+                rotate-kept x sound hq A ha,
+                (
+                  rotate-kept x sound hq B hb,
+                  (
+                    extractBit-kept x sound hq A,
+                    (
+                      extractBit-kept x sound hq B,
+                      (
+                        set-kept A ha,
+                        (
+                          set-kept B hb,
+                          (
+                            reset-kept A ha,
+                            (
+                              reset-kept B hb,
+                              (
+                                putStatus-kept x sound hq 1,
+                                (
+                                  putStatus-kept x sound hq 0,
+                                  (
+                                    over-b (alignedField x) (notOf B) (not-lt B),
+                                    (
+                                      over-b (alignedField x) B hb,
+                                      (
+                                        over-b (movedField x) (notOf M) (not-lt M),
+                                        (
+                                          over-b (alignedField x) (notOf A) (not-lt A),
+                                          (
+                                            over-b (movedField x) M hm,
+                                            (
+                                              over-b (alignedField x) A ha,
+                                              (
+                                                over-b (movedField x) (bitOr M B) (or-lt 32 M B hm hb),
+                                                (
+                                                  over-b (alignedField x) (bitOr A B) (or-lt 32 A B ha hb),
+                                                  (
+                                                    over-b (movedField x) (bitXor M B) (xor-lt 32 M B hm hb),
+                                                    (
+                                                      over-b (alignedField x) (bitXor A B) (xor-lt 32 A B ha hb),
+                                                      (
+                                                        over-b (movedField x) (bitAnd M B) (and-lt 32 M B hm hb),
+                                                        (
+                                                          over-b (alignedField x) (bitAnd A B) (and-lt 32 A B ha hb),
+                                                          (
+                                                            extract-kept A ha,
+                                                            (
+                                                              extract-kept B hb,
+                                                              (
+                                                                extractPair-kept x sound hq A B,
+                                                                (
+                                                                  extractPair-kept x sound hq B A,
+                                                                  (EXTBIT-STAT-kept x sound hq, (PASS-MASK-kept x sound hq, tt)),
+                                                                ),
+                                                              ),
+                                                            ),
+                                                          ),
+                                                        ),
+                                                      ),
+                                                    ),
+                                                  ),
+                                                ),
+                                              ),
+                                            ),
+                                          ),
+                                        ),
+                                      ),
+                                    ),
+                                  ),
+                                ),
+                              ),
+                            ),
+                          ),
+                        ),
+                      ),
+                    ),
+                  ),
+                ),
+              ),
+            ),
+          ),
+        ),
+      )
       (PASS-MASK-kept x sound hq)

@@ -58,14 +58,23 @@ impl Machine {
 impl Status {
     // Bit weights (figure 3). The position bits start at weight 1.
     pub const WIDTH: u32 = 0x100;
+
     pub const WORKED_OUT: u32 = 0x2000;
+
     pub const C: u32 = 0x1_0000;
+
     pub const N: u32 = 0x2_0000;
+
     pub const V: u32 = 0x4_0000;
+
     pub const Z: u32 = 0x8_0000;
+
     pub const L: u32 = 0x10_0000;
+
     pub const M: u32 = 0x20_0000;
+
     pub const S: u32 = 0x40_0000;
+
     pub const NIBBLES: u32 = 0x100_0000;
 
     // A word loaded into the register: bits 13, 14, 15 and 23 are ignored.

@@ -1,0 +1,9 @@
+pub mod Lists
+pub mod MultiplyNumbers
+pub mod Multiply
+pub mod DivideNumbers
+pub mod Divide
+pub mod DecimalNumbers
+pub mod DecimalWords
+pub mod Decimal
+pub mod AppendixA

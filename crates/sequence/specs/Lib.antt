@@ -1,0 +1,4 @@
+pub mod Sequences
+pub mod Results
+pub mod Decimal
+pub mod AppendixA
