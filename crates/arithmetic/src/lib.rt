@@ -1,6 +1,6 @@
 // Arithmetic instructions (tables 10-1 and 10-2, appendix A). Public for the chip's dispatch, which hands over what stands at the chip and
 // the source that the mnemonic names.
-pub mod nibbles; // nibbles.rt: the nibble bits and the correction word
+mod nibbles; // the nibble bits and the correction word
 
 use machine::Inputs;
 use machine::Outputs;
@@ -31,7 +31,7 @@ fn added(x: Inputs, p: u32, r: u32, c: u32, i: u32, s: u32, nibbles: u32, u: u32
 }
 
 // p + r + c in the selected bytes, u in the others.
-pub fn sum(x: Inputs, p: u32, r: u32, c: u32, i: u32, u: u32) -> Outputs
+fn sum(x: Inputs, p: u32, r: u32, c: u32, i: u32, u: u32) -> Outputs
     requires { ⌜ Sound x × (c < 2) × (i < 2) ⌝ }
     ensures { λ o. ⌜ o ≡ sum x p r c i u ⌝ }
 {
@@ -40,7 +40,7 @@ pub fn sum(x: Inputs, p: u32, r: u32, c: u32, i: u32, u: u32) -> Outputs
 }
 
 // p - r where c is 1, and one less where it is 0.
-pub fn difference(x: Inputs, p: u32, r: u32, c: u32, u: u32) -> Outputs
+fn difference(x: Inputs, p: u32, r: u32, c: u32, u: u32) -> Outputs
     requires { ⌜ Sound x × (c < 2) ⌝ }
     ensures { λ o. ⌜ o ≡ difference x p r c u ⌝ }
 {
@@ -151,7 +151,7 @@ fn top_nibble(x: Inputs) -> u32
 }
 
 // SUM-CORR-A, SUM-CORR-B
-pub fn sum_correct(x: Inputs, s: u32) -> Outputs
+fn sum_correct(x: Inputs, s: u32) -> Outputs
     requires { ⌜ Sound x ⌝ }
     ensures { λ o. ⌜ o ≡ sumCorrect x s ⌝ }
 {
@@ -160,7 +160,7 @@ pub fn sum_correct(x: Inputs, s: u32) -> Outputs
 }
 
 // DIFF-CORR-A, DIFF-CORR-B: C is the EX-NOR of the most significant nibble borrow and borrow mode.
-pub fn diff_correct(x: Inputs, s: u32) -> Outputs
+fn diff_correct(x: Inputs, s: u32) -> Outputs
     requires { ⌜ Sound x ⌝ }
     ensures { λ o. ⌜ o ≡ diffCorrect x s ⌝ }
 {

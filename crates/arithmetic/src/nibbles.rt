@@ -1,5 +1,5 @@
 // Leaves: the nibble bits, STATUS <31:24>, and the correction word (appendix A). Every sum and difference has nibble bits, so all eight are
-// worked out at once, in straight-line code. Public for the crates above.
+// worked out at once, in straight-line code.
 ghost use mathlib.Core.Path.{_≡_};
 ghost use Prim.Native.Nat.{_+_, _*_, _/_, _%_, _^_, _<_, _≤_};
 ghost use lib.Dec.{leb};

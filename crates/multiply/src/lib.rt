@@ -71,7 +71,7 @@ fn shifted_by_2(x: Inputs, n: u32, f: u64) -> Outputs
 }
 
 // The first step, from A*: B counts as zero, and M as 0.
-pub fn first_step(x: Inputs, a: u64) -> Outputs
+fn first_step(x: Inputs, a: u64) -> Outputs
     requires { ⌜ Sound x × (a < 2 ^ (bitsOf x + 2)) ⌝ }
     ensures { λ r. ⌜ r ≡ firstStep x a ⌝ }
 {
@@ -80,7 +80,7 @@ pub fn first_step(x: Inputs, a: u64) -> Outputs
 }
 
 // A step of the inner loop, from A*.
-pub fn step(x: Inputs, a: u64) -> Outputs
+fn step(x: Inputs, a: u64) -> Outputs
     requires { ⌜ Sound x × (a < 2 ^ (bitsOf x + 2)) ⌝ }
     ensures { λ r. ⌜ r ≡ step x a ⌝ }
 {
@@ -89,7 +89,7 @@ pub fn step(x: Inputs, a: u64) -> Outputs
 }
 
 // UMULLAST: A is added once more where M is set.
-pub fn last(x: Inputs) -> Outputs
+fn last(x: Inputs) -> Outputs
     requires { ⌜ Sound x ⌝ }
     ensures { λ r. ⌜ r ≡ UMULLAST x ⌝ }
 {

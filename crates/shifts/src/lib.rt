@@ -10,7 +10,7 @@ ghost use Rattle.machine.specs.Inputs.{Sound, bitsOf};
 ghost use Rattle.shifts.specs.SingleBit.{downshifted, upshifted, down, downQ, up, upQ, shifts, UP1-LF-BQ};
 
 // The n selected bits of s downshifted by one bit, with f shifted in at the top.
-pub fn downshifted(s: u32, f: u32, n: u32) -> u32
+fn downshifted(s: u32, f: u32, n: u32) -> u32
     requires { ⌜ (1 ≤ n) × (n ≤ 32) × (f < 2) ⌝ }
     ensures { λ r. ⌜ r ≡ downshifted n s f ⌝ }
 {
@@ -18,7 +18,7 @@ pub fn downshifted(s: u32, f: u32, n: u32) -> u32
 }
 
 // The data word s upshifted by one bit, with f shifted in at bit 0: bit 31 is lost.
-pub fn upshifted(s: u32, f: u32) -> u32
+fn upshifted(s: u32, f: u32) -> u32
     requires { ⌜ f < 2 ⌝ }
     ensures { λ r. ⌜ r ≡ upshifted s f % 2 ^ 32 ⌝ }
 {
@@ -26,7 +26,7 @@ pub fn upshifted(s: u32, f: u32) -> u32
 }
 
 // DN1-0F, DN1-1F and DN1-LF of A or B: L gets the source's least significant bit.
-pub fn down(x: Inputs, s: u32, f: u32) -> Outputs
+fn down(x: Inputs, s: u32, f: u32) -> Outputs
     requires { ⌜ Sound x × (f < 2) ⌝ }
     ensures { λ r. ⌜ r ≡ down x s f ⌝ }
 {
@@ -42,7 +42,7 @@ pub fn down(x: Inputs, s: u32, f: u32) -> Outputs
 }
 
 // The same of A, Q or B, Q: the source's least significant bit goes into Q at the top, and Q's into L.
-pub fn down_over_q(x: Inputs, s: u32, f: u32) -> Outputs
+fn down_over_q(x: Inputs, s: u32, f: u32) -> Outputs
     requires { ⌜ Sound x × (f < 2) ⌝ }
     ensures { λ r. ⌜ r ≡ downQ x s f ⌝ }
 {
@@ -59,7 +59,7 @@ pub fn down_over_q(x: Inputs, s: u32, f: u32) -> Outputs
 }
 
 // DN1-AR-A, DN1-AR-B: the operand's sign bit is shifted in, as their pages say, and not the N flag of table 8-1.
-pub fn down_arithmetic(x: Inputs, s: u32) -> Outputs
+fn down_arithmetic(x: Inputs, s: u32) -> Outputs
     requires { ⌜ Sound x ⌝ }
     ensures { λ r. ⌜ r ≡ down x s (signOf (bitsOf x) s) ⌝ }
 {
@@ -68,7 +68,7 @@ pub fn down_arithmetic(x: Inputs, s: u32) -> Outputs
 }
 
 // DN1-AR-AQ, DN1-AR-BQ: the same over Q (table 8-2).
-pub fn down_arithmetic_over_q(x: Inputs, s: u32) -> Outputs
+fn down_arithmetic_over_q(x: Inputs, s: u32) -> Outputs
     requires { ⌜ Sound x ⌝ }
     ensures { λ r. ⌜ r ≡ downQ x s (signOf (bitsOf x) s) ⌝ }
 {
@@ -77,7 +77,7 @@ pub fn down_arithmetic_over_q(x: Inputs, s: u32) -> Outputs
 }
 
 // UP1 of A or B: L gets the source's sign bit, V that bit xor the sign bit of Y.
-pub fn up(x: Inputs, s: u32, f: u32) -> Outputs
+fn up(x: Inputs, s: u32, f: u32) -> Outputs
     requires { ⌜ Sound x × (f < 2) ⌝ }
     ensures { λ r. ⌜ r ≡ up x s f ⌝ }
 {
@@ -96,7 +96,7 @@ pub fn up(x: Inputs, s: u32, f: u32) -> Outputs
 }
 
 // UP1 of A, Q or B, Q: Q's sign bit goes into the source at bit 0, and f into Q.
-pub fn up_over_q(x: Inputs, s: u32, f: u32) -> Outputs
+fn up_over_q(x: Inputs, s: u32, f: u32) -> Outputs
     requires { ⌜ Sound x × (f < 2) ⌝ }
     ensures { λ r. ⌜ r ≡ upQ x s f ⌝ }
 {
