@@ -1,11 +1,11 @@
 -- The adder, bit by bit: a full adder at bit i gives the sum's bit and the carry out of it, so that carry and overflow can be read off the
 -- operands and the wrapped sum. Assumes nothing.
 use mathlib.Core.Path.{_≡_, refl, sym, ap, ap₂, _∙_, subst}
-use Prim.Native.Nat.{ℕ, zero, suc, _+_, _-_, _*_, _/_, _%_, _^_, _≤_, _<_, min, max}
+use Prim.Native.Nat.{ℕ, suc, _+_, _-_, _*_, _/_, _%_, _^_, _≤_, _<_, min, max}
 use native.Mathlib.Nat.{mod-lt}
 use native.Mathlib.Omega.{arith}
 use lib.Arith.{digits-div}
-use lib.Pow.{pow-pos, pow-add, split, mod-pow-add, shr-shr}
+use lib.Pow.{pow-pos, split, mod-pow-add, shr-shr}
 use lib.Bits.{bitAnd, bitOr, bitXor}
 use Rattle.bits.specs.Bits.{bitOf, notOf, carryOf, overflowOf, xor}
 use Rattle.bits.proofs.Laws.{carry-lt, bit-wrap}

@@ -1,14 +1,14 @@
 -- Numbers bit by bit: what each bitwise operation does to bit i, that numbers with the same bits are equal, and what a masked merge does to
 -- each bit. Assumes nothing.
 use mathlib.Core.Path.{_≡_, refl, sym, ap, ap₂, _∙_, subst}
-use Prim.Native.Nat.{ℕ, zero, suc, _+_, _-_, _*_, _/_, _%_, _^_, _≤_, _<_, min, max}
+use Prim.Native.Nat.{ℕ, zero, suc, _+_, _-_, _*_, _/_, _%_, _^_, _<_, min, max}
 use native.Mathlib.Nat.{mod-lt, div-one, pow-suc, add-mul}
 use native.Mathlib.Omega.{arith}
 use lib.Dec.{lit<}
 use lib.Arith.{lt-one, digits-div}
-use lib.Pow.{pow-pos, pow-add, split, field, mod-mod-pow, shr-shr, shr-lt}
+use lib.Pow.{pow-pos, pow-add, split, shr-shr, shr-lt}
 use lib.Bits.{bitAnd, bitOr, bitXor, differ, and-shr, or-shr, xor-shr, and-step, or-step, xor-step}
-use Rattle.bits.specs.Bits.{bitOf, maskedOf, merged, notOf}
+use Rattle.bits.specs.Bits.{bitOf, maskedOf, notOf}
 
 pub bit-lt : (i x : ℕ) → bitOf i x < 2
 bit-lt i x = mod-lt (x / 2 ^ i) (lit< tt)

@@ -9,7 +9,7 @@ use lib.Bits.{bitAnd, and-le-l, or-lt}
 use lib.Count.{leadingZeros, leading-le}
 use lib.Dec.{eqb, lit<}
 use lib.Pow.{pow-pos, pow-add, pow-mono, shr-lt, ones-sub-lt}
-use Rattle.bits.specs.Bits.{pick, choose, flag, xor, selected, bitOf, signOf, zeroOf, merged, notOf, copies, carryOf, overflowOf, upBy, rotatedUp, fieldMask, maskedOf, putBit, priorityOf}
+use Rattle.bits.specs.Bits.{pick, choose, flag, xor, selected, signOf, zeroOf, merged, notOf, copies, carryOf, overflowOf, upBy, rotatedUp, fieldMask, maskedOf, putBit, priorityOf}
 
 pub selected-bounds : (code : ℕ) → code < 4 → (8 ≤ selected code) × (selected code ≤ 32)
 selected-bounds zero h = (omega arith, omega arith)

@@ -1,6 +1,6 @@
 -- Laws over the number n of selected bits: what the code's masks and shifts are as quotients and remainders. Assumes nothing.
 use mathlib.Core.Path.{_≡_, refl, sym, ap, ap₂, _∙_, subst}
-use Prim.Native.Nat.{ℕ, zero, suc, _+_, _-_, _*_, _/_, _%_, _^_, _≤_, _<_, min, max}
+use Prim.Native.Nat.{ℕ, zero, suc, _+_, _-_, _*_, _/_, _%_, _^_, _≤_, _<_, min}
 use native.Mathlib.Nat.{mod-add-mod, add-mod-right, mod-lt, mod-eq-of-lt, zero-mul, mul-mod-left, add-zero, one-mul, add-mul, mul-assoc, mul-comm, pow-suc, div-lt-iff-lt-mul}
 use native.Mathlib.Omega.{arith}
 use lib.Dec.{eqb, lit<}
@@ -8,7 +8,7 @@ use lib.Arith.{lt-one}
 use lib.Pow.{pow-pos, pow-lt, pow-add, split, field, high, ones-split, ones-lt, shr-mod, shr-shr, shr-lt, shl-shr, mod-pow-add, mod-mod-pow}
 use lib.Bits.{bitAnd, bitOr, and-step, or-step, or-zero-r, and-mask, and-high, or-block, or-shifted, or-shifted-r}
 use lib.Count.{leadingZeros, leading-length, leading-unique}
-use Rattle.bits.specs.Bits.{pick, choose, flag, merged, carryOf, zeroOf, bitOf, upBy, rotatedUp, putBit}
+use Rattle.bits.specs.Bits.{choose, flag, merged, carryOf, zeroOf, bitOf, rotatedUp, putBit}
 
 -- all ones, shifted down so that n are left
 pub ones-shr : (n : ℕ) → n ≤ 32 → (2 ^ 32 - 1) / 2 ^ (32 - n) ≡ 2 ^ n - 1

@@ -4,7 +4,6 @@ use mathlib.Core.List.{List, [], _∷_, _++_}
 use Prim.Native.Nat.{ℕ, zero, suc}
 use lib.Count.{leadingZeros}
 use Rattle.bits.specs.Bits.{zeroOf, merged, carryOf, overflowOf, rotatedUp, fieldMask, priorityOf}
-use Rattle.machine.specs.declared.Status.{Status}
 use Rattle.machine.specs.Status.{asRead, loaded}
 use Rattle.movement.specs.DataMovement.{PASS-STAT, loadStatus}
 use Rattle.movement.specs.Prioritize.{prioritize}

@@ -1,5 +1,5 @@
 -- Every word leaves Y, Q and the status register in range. Assumes nothing.
-use mathlib.Core.Path.{_≡_, sym, subst}
+use mathlib.Core.Path.{sym, subst}
 use Prim.Native.Nat.{ℕ, _^_, _<_}
 use lib.Dec.{lit<}
 use Rattle.machine.specs.declared.Inputs.{Inputs}
@@ -15,7 +15,7 @@ use Rattle.chip.specs.declared.Operation.{Operation}
 use Rattle.chip.specs.declared.Operation.the-variants.{ZeroExtA, ZeroExtB, SignExtA, SignExtB, PassStat, PassQ, LoadQA, LoadQB, NotA, NotB, NegA, NegB, PriorA, PriorB, MergeAB, MergeBA, DecrA, DecrB, IncrA, IncrB, Decr2A, Decr2B, Incr2A, Incr2B, Decr4A, Decr4B, Incr4A, Incr4B, LdstatA, LdstatB, Zero, Sign, Or, Xor, And, Xnor, Add, Addc, Sub, Subc, Subr, Subrc, Shift, Decimal, Divide, Multiply, Field}
 use Rattle.chip.specs.declared.Decoded.{Decoded}
 use Rattle.chip.specs.declared.Decoded.the-variants.{Known, Opcode}
-use Rattle.chip.specs.Glossary.{Page, pageOf, following, performOf}
+use Rattle.chip.specs.Glossary.{Page, following, performOf}
 use Rattle.chip.specs.Operations.{decodedOf, meaningOf}
 use Rattle.chip.proofs.Pages.{pageFor, page-decoded}
 

@@ -2,4 +2,5 @@ pub mod Pages
 pub mod Range
 pub mod Kept
 pub mod Single
+pub mod Facts
 pub mod Examples

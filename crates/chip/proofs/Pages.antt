@@ -5,7 +5,6 @@ use mathlib.Core.List.{List, [], _∷_}
 use Prim.Native.Nat.{ℕ, zero, suc}
 use lib.ListN.{getD}
 use Rattle.machine.specs.declared.Inputs.{Inputs}
-use Rattle.machine.specs.declared.Outputs.{Outputs}
 use Rattle.chip.specs.declared.Operation.{Operation}
 use Rattle.chip.specs.declared.Decoded.{Decoded}
 use Rattle.chip.specs.declared.Decoded.the-variants.{Known, Opcode}

@@ -1,12 +1,9 @@
 -- Ranges of a word's fields: what it says that none is too large. Assumes nothing.
 use mathlib.Core.Path.{_≡_, refl}
 use mathlib.Core.Bool.{Bool, true, false, _||_}
-use Prim.Native.Nat.{ℕ, _≤_, _<_}
+use Prim.Native.Nat.{ℕ, _≤_}
 use native.Mathlib.Omega.{arith}
 use borrow.Author.Tests.{ltb-false}
-use lib.Dec.{ltb}
-use Rattle.machine.specs.declared.Inputs.{Inputs}
-use Rattle.machine.specs.Status.{Good}
 use Rattle.machine.specs.Inputs.{Sound}
 use Rattle.machine.proofs.Round.{loaded-good}
 use Rattle.chip.specs.declared.SingleWord.{SingleWord}

@@ -1,10 +1,9 @@
 -- The single word's table of reasons, row by row; and that no second answer meets its promise. Assumes nothing.
 use mathlib.Core.Path.{_≡_, refl, sym, ap, ap₂, _∙_}
-use mathlib.Core.List.{List, [], _∷_}
+use mathlib.Core.List.{[], _∷_}
 use mathlib.Core.Bool.{Bool, true, false}
-use Prim.Native.Nat.{ℕ}
 use Rattle.reasons.specs.declared.Reason.the-variants.{Opcode as NoOpcode, Inputs as BadInputs}
-use Rattle.reasons.specs.Reasons.{Row, _gives_at_, firstOf}
+use Rattle.reasons.specs.Reasons.{_gives_at_, firstOf}
 use Rattle.chip.specs.declared.SingleWord.{SingleWord}
 use Rattle.chip.specs.declared.SingleAnswer.{SingleAnswer}
 use Rattle.chip.specs.declared.Operation.{Operation}

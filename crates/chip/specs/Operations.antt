@@ -4,7 +4,6 @@ use Prim.Native.Nat.{ℕ}
 use lib.ListN.{getD}
 use Rattle.machine.specs.declared.Inputs.{Inputs}
 use Rattle.machine.specs.declared.Outputs.{Outputs}
-use Rattle.machine.specs.Inputs.{leaving}
 use Rattle.movement.specs.DataMovement.{ZERO-EXTA, ZERO-EXTB, SIGN-EXTA, SIGN-EXTB, PASS-STAT, PASS-Q, LOADQ-A, LOADQ-B, MERGEA-B, MERGEB-A, LDSTAT-A, LDSTAT-B}
 use Rattle.movement.specs.Logical.{NOT-A, NOT-B, ZERO, SIGN, OR, XOR, AND, XNOR}
 use Rattle.movement.specs.Prioritize.{PRIOR-A, PRIOR-B}

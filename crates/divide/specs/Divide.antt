@@ -7,7 +7,7 @@ use Rattle.machine.specs.declared.Inputs.{Inputs}
 use Rattle.machine.specs.declared.Outputs.{Outputs}
 use Rattle.machine.specs.Status.{withC, withN, withV, withZ, withL, withM, withS}
 use Rattle.machine.specs.Inputs.{bitsOf, leaving, zeroSign}
-use Rattle.divide.specs.Steps.{operand, formed, carryOut, stepCarry, stepLink, upshifted, signQ, upshiftedQ, signedBit, extendedSign, unsignedBit, printedTest, remainderTest}
+use Rattle.divide.specs.Steps.{formed, carryOut, stepCarry, stepLink, upshifted, signQ, upshiftedQ, signedBit, extendedSign, unsignedBit, printedTest, remainderTest}
 
 -- 4E. B is upshifted, the sign bit of Q shifted in; the exclusive NOR of the signs of A and B goes into Q and M; S and L get the bit shifted
 -- out of B. Z and N are of Y.

@@ -1,6 +1,6 @@
 -- A status that is read and loaded again is the same status; and what is loaded is in range. Assumes nothing.
-use mathlib.Core.Path.{_≡_, refl, sym, ap, _∙_}
-use Prim.Native.Nat.{ℕ, _+_, _-_, _*_, _/_, _%_, _^_, _<_, max}
+use mathlib.Core.Path.{_≡_, sym, ap, _∙_}
+use Prim.Native.Nat.{ℕ, _+_, _*_, _/_, _%_, _^_, _<_, max}
 use native.Mathlib.Nat.{div-one}
 use native.Mathlib.Omega.{arith}
 use lib.Pow.{high, low}

@@ -4,7 +4,7 @@ use native.Mathlib.Omega.{arith}
 use Rattle.bits.specs.Bits.{signOf, zeroOf, merged, copies, priorityOf}
 use Rattle.bits.proofs.Bounds.{zero-flag, sign-flag, merged-lt, copies-lt, priority-le}
 use Rattle.machine.specs.declared.Inputs.{Inputs}
-use Rattle.machine.specs.Status.{Good, asRead}
+use Rattle.machine.specs.Status.{asRead}
 use Rattle.machine.specs.Inputs.{bitsOf, Sound, Kept}
 use Rattle.machine.proofs.Round.{loaded-good, read-lt}
 use Rattle.machine.proofs.Kept.{bits-le, good-z, good-position, good-zero-sign, result-kept}

@@ -1,6 +1,6 @@
 -- Logical instructions (table 7), in opcode order. Z and N are of the selected bytes; unselected bytes come from the source of a one-operand
 -- instruction, else from B. Assumes nothing.
-use Prim.Native.Nat.{ℕ, _-_}
+use Prim.Native.Nat.{_-_}
 use lib.Bits.{bitAnd, bitOr, bitXor}
 use Rattle.bits.specs.Bits.{merged, notOf, copies}
 use Rattle.machine.specs.declared.Inputs.{Inputs}

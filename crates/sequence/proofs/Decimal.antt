@@ -15,7 +15,8 @@ use Rattle.chip.specs.Glossary.{performOf}
 use Rattle.chip.specs.Lists.{State, readAt, storeAt, inputsOf, stepOf, execs}
 use Rattle.sequence.specs.Sequences.{bitsIn}
 use Rattle.sequence.specs.Decimal.{Digits, value, digitsIn, DecimalOperation, additions, subtractions, Side, Side.at-A, Side.at-B, Layout, wordWith, calculation, correctionAt, decimalWords, facing, Elsewhere, DecimalSum, DecimalDifference, SumExact, DifferenceExact, Each}
-use Rattle.sequence.proofs.Lists.{read-same, read-other, store-length, merged-high, bits-of-bytes}
+use Rattle.chip.proofs.Facts.{store-length, read-same, read-other}
+use Rattle.sequence.proofs.Lists.{merged-high, bits-of-bytes}
 use Rattle.sequence.proofs.DecimalNumbers.{SumCorrected, DiffCorrected}
 use Rattle.sequence.proofs.DecimalWords.{sum-at, difference-at}
 
@@ -70,7 +71,7 @@ module _ (d : Layout) (t : State) (hy : d .y < length (t .file)) (hz : d .z < le
   elsewhere n passing hq ha =
       record {
         registers = store-length (after₁ .file) (d .z) _ ∙ store-length (t .file) (d .y) (o .y);
-        others = λ r ey ez. read-other (after₁ .file) (d .z) r _ ez ∙ read-other (t .file) (d .y) r (o .y) ey;
+        others = λ r ey ez. read-other (after₁ .file) (d .z) _ r ez ∙ read-other (t .file) (d .y) (o .y) r ey;
         q = hq;
         above = ap (λ (v : ℕ). v / 2 ^ n) given ∙ ha;
       }

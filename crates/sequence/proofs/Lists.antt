@@ -7,29 +7,16 @@ use Prim.Native.Nat.{ℕ, zero, suc, _+_, _-_, _*_, _/_, _%_, _^_, _≤_, _<_}
 use native.Mathlib.Nat.{mod-lt, add-mul, mul-div-mul-left, mul-add-mod-self-right, add-mul-mod-self-right, div-add-mod'}
 use native.Mathlib.Omega.{arith}
 use lib.Pow.{pow-pos, pow-add, split, shr-lt, high, low, field, mod-mod-pow}
-use lib.ListN.{length, length-set}
-use lib.Seq.{getD-set-same, getD-set-other}
+use lib.ListN.{length}
 use Rattle.bits.specs.Bits.{selected, bitOf, signOf, merged, notOf}
 use Rattle.machine.specs.declared.Inputs.{Inputs}
 use Rattle.machine.specs.declared.Outputs.{Outputs}
 use Rattle.machine.specs.Inputs.{bitsOf}
 use Rattle.chip.specs.Glossary.{performOf}
-use Rattle.chip.specs.Lists.{State, readAt, storeAt, inputsOf, stepOf, execs}
+use Rattle.chip.specs.Lists.{State, readAt, inputsOf, stepOf, execs}
+use Rattle.chip.proofs.Facts.{store-length, read-same, read-other}
 use Rattle.sequence.specs.Sequences.{Idle, wordOf, wordsOf, times}
 use Rattle.sequence.specs.Results.{Untouched}
-
--- ---- the file of registers
-pub read-same : (file : List ℕ) (r y : ℕ) → r < length file → readAt (storeAt file r y) r ≡ y
-unfolding readAt storeAt
-read-same file r y h = getD-set-same file r y 0 h
-
-pub read-other : (file : List ℕ) (r s y : ℕ) → s ≢ r → readAt (storeAt file r y) s ≡ readAt file s
-unfolding readAt storeAt
-read-other file r s y h = getD-set-other file r s y 0 h
-
-pub store-length : (file : List ℕ) (r y : ℕ) → length (storeAt file r y) ≡ length file
-unfolding storeAt
-store-length file r y = length-set file r y
 
 -- ---- selected and unselected bits of a merged word
 pub merged-low : (n s u : ℕ) → merged n s u % 2 ^ n ≡ s % 2 ^ n
@@ -154,7 +141,7 @@ module _ (n code a b : ℕ) (bits : selected code ≡ n) (i : Idle) (opcode : �
   word-rest hy hq =
       record {
         registers = store-length (t .file) b _;
-        others = λ r e. read-other (t .file) b r _ e;
+        others = λ r e. read-other (t .file) b _ r e;
         above-b = ap (λ (x : ℕ). x / 2 ^ n) (read-same (t .file) b _ hb) ∙ hy;
         above-q = hq;
       }

@@ -1,6 +1,5 @@
 -- Each arm's call gives its page's definition. Assumes nothing.
 use mathlib.Core.Path.{_∙_}
-use Rattle.chip.specs.Operations.{meaningOf}
 use borrow.Author.Needs.{needs}
 use Rattle.chip.proofs.perform.Statement.{statement}
 use Rattle.chip.proofs.perform.Tie as tie

@@ -1,0 +1,191 @@
+/*
+ * Times the engines on the benchmark's sheets: nanoseconds a word, the best of
+ * several repeats, and each engine's ratio to the first. See README.md.
+ *
+ *   harness [REPEATS]       default 15
+ */
+#define _POSIX_C_SOURCE 199309L
+#include "model.h"
+#include "sheets.h"
+
+#include <inttypes.h>
+#include <stdio.h>
+#include <stdlib.h>
+#include <string.h>
+#include <time.h>
+
+/* ---- Engines ------------------------------------------------------------ */
+
+struct end {
+    uint32_t reason;
+    uint64_t place; /* words run, where the reason is 0 */
+};
+
+struct engine {
+    const char *name;
+    struct end (*run)(const uint8_t *sheet, size_t length, uint32_t *file,
+                      size_t registers, uint32_t *q, uint32_t *status,
+                      uint64_t start, uint64_t allowance);
+    struct end (*run_interrupted)(const uint8_t *main_sheet, size_t main_length,
+                                  const uint8_t *handler, size_t handler_length,
+                                  const uint16_t *schedule, size_t entries,
+                                  uint32_t *file, size_t registers, uint32_t *q,
+                                  uint32_t *status);
+};
+
+static struct end c_run(const uint8_t *sheet, size_t length, uint32_t *file,
+                        size_t registers, uint32_t *q, uint32_t *status,
+                        uint64_t start, uint64_t allowance)
+{
+    struct model_machine machine = {*q, *status};
+    struct model_verdict v =
+        model_run(sheet, length, file, registers, &machine, start, allowance);
+    *q = machine.q;
+    *status = machine.status;
+    return (struct end){v.reason, v.place};
+}
+
+static struct end c_run_interrupted(
+    const uint8_t *main_sheet, size_t main_length, const uint8_t *handler,
+    size_t handler_length, const uint16_t *schedule, size_t entries,
+    uint32_t *file, size_t registers, uint32_t *q, uint32_t *status)
+{
+    struct model_machine machine = {*q, *status};
+    struct model_verdict v = model_run_interrupted(
+        main_sheet, main_length, handler, handler_length, schedule, entries,
+        file, registers, &machine);
+    *q = machine.q;
+    *status = machine.status;
+    return (struct end){v.reason, v.place};
+}
+
+/*
+ * >>> THE PROVED LIBRARY GOES HERE. <<<
+ * Two functions like the two above, over the library's C interface, and a row
+ * below, under BENCH_PROVED (run.sh would set it and link the archive):
+ *
+ *     #ifdef BENCH_PROVED
+ *     #include "../include/am29332.h"
+ *     static struct end proved_run(..) { .. }
+ *     static struct end proved_run_interrupted(..) { .. }
+ *     #endif
+ */
+
+static const struct engine engines[] = {
+    {"C model", c_run, c_run_interrupted},
+    /* {"proved", proved_run, proved_run_interrupted}, */
+};
+
+enum { ENGINES = sizeof engines / sizeof *engines };
+
+/* ---- Running a case ----------------------------------------------------- */
+
+/* What a case has left behind. */
+struct state {
+    uint32_t file[MODEL_MOST_REGISTERS];
+    uint32_t q, status;
+};
+
+static struct state first_state(const struct bench_case *c)
+{
+    struct state s;
+    memcpy(s.file, c->file, sizeof s.file);
+    s.q = c->machine.q;
+    s.status = c->machine.status;
+    return s;
+}
+
+static uint64_t run_once(const struct engine *engine,
+                         const struct bench_case *c, struct state *s)
+{
+    struct end end =
+        c->entries == 0
+            ? engine->run(c->main.bytes, c->main.length, s->file,
+                          MODEL_MOST_REGISTERS, &s->q, &s->status, 0,
+                          UINT64_MAX)
+            : engine->run_interrupted(c->main.bytes, c->main.length,
+                                      c->handler.bytes, c->handler.length,
+                                      c->schedule, c->entries, s->file,
+                                      MODEL_MOST_REGISTERS, &s->q, &s->status);
+    if (end.reason != MODEL_DONE) {
+        fprintf(stderr, "%s refused %s: reason %" PRIu32 "\n", engine->name,
+                c->name, end.reason);
+        exit(1);
+    }
+    return end.place;
+}
+
+static double now(void)
+{
+    struct timespec t;
+    clock_gettime(CLOCK_MONOTONIC, &t);
+    return (double)t.tv_sec * 1e9 + (double)t.tv_nsec;
+}
+
+/* A repeat runs the sheet as often as makes about this many words: some
+ * milliseconds. */
+enum { WORDS_A_REPEAT = 400000 };
+
+/* Nanoseconds a word over one repeat; the state goes on from repeat to
+ * repeat. */
+static double repeat(const struct engine *engine, const struct bench_case *c,
+                     struct state *s)
+{
+    uint64_t words = 0;
+    double start = now();
+    while (words < WORDS_A_REPEAT)
+        words += run_once(engine, c, s);
+    return (now() - start) / (double)words;
+}
+
+/* The engines take turns, so that a slow moment of the machine meets all. */
+static void time_case(const struct bench_case *c, int repeats,
+                      double best[ENGINES])
+{
+    struct state states[ENGINES];
+    for (int e = 0; e < ENGINES; e++) {
+        states[e] = first_state(c);
+        best[e] = repeat(&engines[e], c, &states[e]);
+    }
+    for (int i = 1; i < repeats; i++)
+        for (int e = 0; e < ENGINES; e++) {
+            double time = repeat(&engines[e], c, &states[e]);
+            if (time < best[e])
+                best[e] = time;
+        }
+    for (int e = 1; e < ENGINES; e++)
+        if (memcmp(&states[0], &states[e], sizeof states[0]) != 0) {
+            fprintf(stderr, "%s: %s and %s end differently\n", c->name,
+                    engines[0].name, engines[e].name);
+            exit(1);
+        }
+}
+
+static void print_row(const struct bench_case *c, const double best[ENGINES])
+{
+    printf("%-11s", c->name);
+    for (int e = 0; e < ENGINES; e++)
+        printf(" %10.2f", best[e]);
+    for (int e = 1; e < ENGINES; e++)
+        printf(" %10.2f", best[e] / best[0]);
+    printf("  %s\n", c->what);
+}
+
+int main(int count, char **words)
+{
+    static struct bench_case c;
+    int repeats = count > 1 ? atoi(words[1]) : 15;
+    printf("nanoseconds a word, best of %d\n%-11s", repeats, "sheet");
+    for (int e = 0; e < ENGINES; e++)
+        printf(" %10s", engines[e].name);
+    for (int e = 1; e < ENGINES; e++)
+        printf(" %10s", "ratio");
+    printf("\n");
+    for (int i = 0; i < BENCH_CASES; i++) {
+        double best[ENGINES];
+        bench_make(&c, i);
+        time_case(&c, repeats, best);
+        print_row(&c, best);
+    }
+    return 0;
+}

@@ -1,0 +1,263 @@
+/*
+ * The sheets that the benchmark runs. See sheets.h.
+ */
+#include "sheets.h"
+
+#include <stdlib.h>
+#include <string.h>
+
+/* ---- Building ----------------------------------------------------------- */
+
+/* A sheet with no words yet; it declares all 64 registers. */
+static void open_sheet(struct bench_sheet *sheet)
+{
+    static const uint8_t header[MODEL_HEADER_BYTES] = {0x10, 0x00, 64 << 1, 0};
+    memcpy(sheet->bytes, header, sizeof header);
+    sheet->length = sizeof header;
+}
+
+static size_t words_in(const struct bench_sheet *sheet)
+{
+    return (sheet->length - MODEL_HEADER_BYTES) / MODEL_WORD_BYTES;
+}
+
+static void put(struct bench_sheet *sheet, struct model_word word)
+{
+    size_t count = words_in(sheet) + 1;
+    if (model_pack(&word, sheet->bytes + sheet->length,
+                   sizeof sheet->bytes - sheet->length).reason != MODEL_DONE)
+        abort();
+    sheet->length += MODEL_WORD_BYTES;
+    sheet->bytes[0] = (uint8_t)(0x10 | count >> 8);
+    sheet->bytes[1] = (uint8_t)count;
+}
+
+enum byte_code { FOUR_BYTES, ONE_BYTE, TWO_BYTES, THREE_BYTES };
+
+/* An operation that writes Y. */
+static struct model_word op(enum model_opcode opcode, enum byte_code bytes,
+                            int a, int b, int y)
+{
+    struct model_word word = {
+        .opcode = (uint8_t)opcode, .byte_code = (uint8_t)bytes,
+        .a = (uint8_t)a, .b = (uint8_t)b, .y = (uint8_t)y, .write = 1};
+    return word;
+}
+
+/* The same with a position and a width, both from the word. */
+static struct model_word field_op(enum model_opcode opcode, int position,
+                                  int width, int a, int b, int y)
+{
+    struct model_word word = op(opcode, FOUR_BYTES, a, b, y);
+    word.position = (uint8_t)(position & 63);
+    word.width = (uint8_t)(width & 31);
+    return word;
+}
+
+static struct model_word no_write(struct model_word word)
+{
+    word.write = 0;
+    return word;
+}
+
+/* ---- The generator of the independent program's draw -------------------- */
+
+static uint64_t draw(uint64_t *x)
+{
+    *x ^= *x << 13;
+    *x ^= *x >> 7;
+    return *x ^= *x << 17;
+}
+
+static int below(uint64_t *x, int limit)
+{
+    return (int)((draw(x) >> 16) % (uint64_t)limit);
+}
+
+static void fill_file(struct bench_case *c, uint64_t seed)
+{
+    for (int i = 0; i < MODEL_MOST_REGISTERS; i++)
+        c->file[i] = (uint32_t)(draw(&seed) >> 16);
+}
+
+/* ---- Scoring ------------------------------------------------------------ */
+
+/* Registers of the scoring sheet. The features spoken are in 8 to 15, those of
+ * the candidate words in 16 to 23. */
+enum {
+    R_DIFFERENCE = 1,
+    R_HIGH = 2,       /* high half of the product, three bytes */
+    R_LOW = 3,        /* low half */
+    R_SUM_HIGH = 4,   /* the distance so far */
+    R_SUM_LOW = 5,
+    R_BEST = 6,       /* the best distance */
+    R_LOG = 7,        /* packed scores */
+    R_LESS = 24,      /* is this word's distance less? */
+    R_MASK = 25,
+    R_TEMPORARY = 26,
+    R_SPOKEN = 8,
+    R_CANDIDATE = 16
+};
+
+/* Three-byte multiply as document 01 has it, multiplier in Q: the product of a
+ * register with Q, high half to R_HIGH, low half to R_LOW. */
+static void put_multiply(struct bench_sheet *sheet, int factor)
+{
+    put(sheet, op(OP_UMULFIRST, THREE_BYTES, factor, R_HIGH, R_HIGH));
+    for (int i = 0; i < 24 / 2 - 1; i++)
+        put(sheet, op(OP_UMULSTEP, THREE_BYTES, factor, R_HIGH, R_HIGH));
+    put(sheet, op(OP_UMULLAST, THREE_BYTES, factor, R_HIGH, R_HIGH));
+    put(sheet, op(OP_PASS_Q, THREE_BYTES, 0, R_LOW, R_LOW));
+}
+
+/* The square of one feature's difference, added to the distance. */
+static void put_feature(struct bench_sheet *sheet, int feature)
+{
+    put(sheet, op(OP_SUB, THREE_BYTES, R_SPOKEN + feature,
+                  R_CANDIDATE + feature, R_DIFFERENCE));
+    put(sheet, no_write(op(OP_LOADQ_A, THREE_BYTES, R_DIFFERENCE, 0, 0)));
+    put_multiply(sheet, R_DIFFERENCE);
+    put(sheet, op(OP_ADD, THREE_BYTES, R_LOW, R_SUM_LOW, R_SUM_LOW));
+    put(sheet, op(OP_ADDC, THREE_BYTES, R_HIGH, R_SUM_HIGH, R_SUM_HIGH));
+}
+
+/* Compares on N xor V, keeps the lesser distance, packs a score into the log. */
+static void put_choice(struct bench_sheet *sheet, int feature)
+{
+    put(sheet, no_write(op(OP_SUB, THREE_BYTES, R_SUM_HIGH, R_BEST, 0)));
+    put(sheet, field_op(OP_EXTBIT_STAT, 14, 0, 0, 0, R_LESS));
+    put(sheet, op(OP_NEG_A, FOUR_BYTES, R_LESS, 0, R_MASK));
+    put(sheet, op(OP_XOR, THREE_BYTES, R_SUM_HIGH, R_BEST, R_TEMPORARY));
+    put(sheet, op(OP_AND, THREE_BYTES, R_MASK, R_TEMPORARY, R_TEMPORARY));
+    put(sheet, op(OP_XOR, THREE_BYTES, R_TEMPORARY, R_BEST, R_BEST));
+    put(sheet, field_op(OP_EXTF_A, -16, 8, R_SUM_HIGH, 0, R_TEMPORARY));
+    put(sheet, field_op(OP_PASSF_A, feature * 4 % 24, 7, R_TEMPORARY, R_LOG,
+                        R_LOG));
+    put(sheet, field_op(OP_ORF_A, 31, 1, R_LESS, R_LOG, R_LOG));
+}
+
+/* As many words of scoring as asked for. */
+static void put_scoring(struct bench_sheet *sheet, size_t count)
+{
+    static struct bench_sheet block;
+    size_t bytes = MODEL_WORD_BYTES * count;
+    open_sheet(&block);
+    for (int feature = 0; feature < 8; feature++) {
+        put_feature(&block, feature);
+        if (feature % 2 == 1)
+            put_choice(&block, feature);
+    }
+    for (size_t i = 0; i < bytes; i++)
+        sheet->bytes[MODEL_HEADER_BYTES + i] =
+            block.bytes[MODEL_HEADER_BYTES +
+                        i % (block.length - MODEL_HEADER_BYTES)];
+    sheet->length = MODEL_HEADER_BYTES + bytes;
+    sheet->bytes[0] = (uint8_t)(0x10 | count >> 8);
+    sheet->bytes[1] = (uint8_t)count;
+}
+
+/* ---- The other sheets --------------------------------------------------- */
+
+/* ADD alone, over all byte codes. */
+static void put_adds(struct bench_sheet *sheet, size_t count)
+{
+    uint64_t x = 42;
+    while (words_in(sheet) < count)
+        put(sheet, op(OP_ADD, (enum byte_code)below(&x, 4), below(&x, 32),
+                      below(&x, 32), below(&x, 32)));
+}
+
+static int has_page(int opcode)
+{
+    return opcode >> 1 != 0x1E >> 1 && opcode >> 1 != 0x4C >> 1;
+}
+
+/* A word with any fields, on registers `first` to `first + 31`. */
+static struct model_word any_word(uint64_t *x, int opcode, int first)
+{
+    struct model_word word =
+        op((enum model_opcode)opcode, (enum byte_code)below(x, 4),
+           first + below(x, 32), first + below(x, 32), first + below(x, 32));
+    word.position = (uint8_t)below(x, 64);
+    word.width = (uint8_t)below(x, 32);
+    word.write = below(x, 4) != 0;
+    word.macro_select = (uint8_t)below(x, 2);
+    word.macro_carry = (uint8_t)below(x, 2);
+    word.macro_link = (uint8_t)below(x, 2);
+    word.borrow = (uint8_t)below(x, 2);
+    return word;
+}
+
+/* All 124 operations, each as often as any other, in an order drawn anew for
+ * each round. */
+static void put_mix(struct bench_sheet *sheet, int rounds)
+{
+    uint64_t x = 7;
+    for (int round = 0; round < rounds; round++) {
+        int order[128], count = 0;
+        for (int opcode = 0; opcode < 128; opcode++)
+            if (has_page(opcode))
+                order[count++] = opcode;
+        for (; count > 0; count--) {
+            int pick = below(&x, count);
+            put(sheet, any_word(&x, order[pick], 0));
+            order[pick] = order[count - 1];
+        }
+    }
+}
+
+/* A handler of the right form: s and q are 62 and 63, its own registers 32 to
+ * 61, the body of six words counts and shifts. */
+static void put_handler(struct bench_sheet *sheet)
+{
+    enum { SAVE_S = 62, SAVE_Q = 63, OWN = 32 };
+    put(sheet, op(OP_PASS_STAT, FOUR_BYTES, OWN, OWN, SAVE_S));
+    put(sheet, op(OP_PASS_Q, FOUR_BYTES, OWN, OWN, SAVE_Q));
+    put(sheet, no_write(op(OP_LOADQ_A, FOUR_BYTES, OWN, OWN, OWN)));
+    put(sheet, no_write(op(OP_LDSTAT_A, FOUR_BYTES, OWN, OWN, OWN)));
+    put(sheet, op(OP_INCR_A, FOUR_BYTES, OWN + 1, OWN, OWN + 1));
+    put(sheet, op(OP_ADD, TWO_BYTES, OWN + 1, OWN + 2, OWN + 2));
+    put(sheet, op(OP_XOR, FOUR_BYTES, OWN + 2, OWN + 3, OWN + 3));
+    put(sheet, op(OP_UP1_LF_AQ, FOUR_BYTES, OWN + 3, OWN, OWN + 4));
+    put(sheet, field_op(OP_PASSF_A, 5, 9, OWN + 4, OWN + 5, OWN + 5));
+    put(sheet, op(OP_PASS_Q, FOUR_BYTES, OWN, OWN, OWN + 6));
+    put(sheet, no_write(op(OP_LOADQ_A, FOUR_BYTES, SAVE_Q, OWN, OWN)));
+    put(sheet, no_write(op(OP_LDSTAT_A, FOUR_BYTES, SAVE_S, OWN, OWN)));
+}
+
+/* A boundary every so many words. */
+static void put_schedule(struct bench_case *c, size_t every)
+{
+    for (size_t at = 0; at <= words_in(&c->main); at += every)
+        c->schedule[c->entries++] = (uint16_t)at;
+}
+
+/* ---- The table ---------------------------------------------------------- */
+
+void bench_make(struct bench_case *c, int i)
+{
+    static const char *const names[BENCH_CASES][2] = {
+        {"scoring", "three-byte multiply, accumulate, compare, pack; 984 words"},
+        {"adds", "ADD at every byte code; 1,000 words"},
+        {"mix", "all 124 operations, eight times each; 992 words"},
+        {"longest", "scoring; 4,095 words"},
+        {"six", "the first words of scoring; 6 words"},
+        {"interrupts", "scoring, 984 words; a handler of 12 every 10 words"},
+        {"storm", "scoring, 984 words; the same handler after every word"}};
+    memset(c, 0, sizeof *c);
+    c->name = names[i][0];
+    c->what = names[i][1];
+    fill_file(c, 0x9E3779B97F4A7C15u + (uint64_t)i);
+    open_sheet(&c->main);
+    open_sheet(&c->handler);
+    if (i == 1)
+        put_adds(&c->main, 1000);
+    else if (i == 2)
+        put_mix(&c->main, 8);
+    else
+        put_scoring(&c->main, i == 3 ? MODEL_MOST_WORDS : i == 4 ? 6 : 984);
+    if (i >= 5) {
+        put_handler(&c->handler);
+        put_schedule(c, i == 5 ? 10 : 1);
+    }
+}

@@ -1,0 +1,33 @@
+/*
+ * The sheets that the benchmark runs, made once before the clock starts.
+ */
+#ifndef BENCH_SHEETS_H
+#define BENCH_SHEETS_H
+
+#include "model.h"
+
+enum { BENCH_MOST_BYTES = MODEL_HEADER_BYTES + MODEL_WORD_BYTES * MODEL_MOST_WORDS };
+
+/* A sheet as packed bytes. */
+struct bench_sheet {
+    size_t length;
+    uint8_t bytes[BENCH_MOST_BYTES];
+};
+
+/* One row of the table. Where `entries` is not 0 it is an interrupted run. */
+struct bench_case {
+    const char *name;
+    const char *what;
+    struct bench_sheet main, handler;
+    size_t entries;
+    uint16_t schedule[MODEL_MOST_ENTRIES];
+    uint32_t file[MODEL_MOST_REGISTERS];
+    struct model_machine machine;
+};
+
+enum { BENCH_CASES = 7 };
+
+/* Makes case number `i`, 0 to BENCH_CASES - 1. */
+void bench_make(struct bench_case *c, int i);
+
+#endif

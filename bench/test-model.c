@@ -1,0 +1,590 @@
+/*
+ * Holds the C model to the independent program (see test-model.sh).
+ *
+ *   test-model vectors < LINES      each line's answer is the model's
+ *   test-model digest               prints the 128 digest lines
+ *   test-model interrupts < LINES   each line's answer is the model's
+ *   test-model trace < INPUT        the trace program over the model
+ *   test-model traces FILE.in...    each text is FILE.out, and each accepted
+ *                                   sheet comes out the same run at once and
+ *                                   in parts
+ *   test-model words                packing, unpacking, their refusals
+ *   test-model forms                every way to break one field of a handler
+ *
+ * The formats and the draw are described in ../oracle/README.md. Exit status 1
+ * on a miss.
+ */
+#include "model.h"
+
+#include <inttypes.h>
+#include <stdio.h>
+#include <stdlib.h>
+#include <string.h>
+
+/* ---- The generator and the draw ----------------------------------------- */
+
+static uint64_t next(uint64_t x)
+{
+    x ^= x << 13;
+    x ^= x >> 7;
+    return x ^ x << 17;
+}
+
+static uint64_t draw(uint64_t *x) { return *x = next(*x); }
+
+static uint64_t stepped(uint64_t x)
+{
+    for (int i = 0; i < 16; i++)
+        x = next(x);
+    return x;
+}
+
+enum { SYSTEMATIC = 73728, CASES = 102400 };
+
+static const uint32_t PATTERNS[24] = {
+    0x00000000, 0x00000001, 0xFFFFFFFF, 0x0000007F, 0x00000080, 0x000000FF,
+    0x00007FFF, 0x00008000, 0x0000FFFF, 0x007FFFFF, 0x00800000, 0x00FFFFFF,
+    0x7FFFFFFF, 0x80000000, 0x55555555, 0xAAAAAAAA, 0x99999999, 0x9A9A9A9A,
+    0x00010000, 0xFFFF0000, 0x12345678, 0x45454545, 0x54545454, 0xFFFFFFFE};
+
+static struct model_inputs systematic(uint8_t opcode, uint32_t i, uint64_t *x)
+{
+    uint64_t r1 = draw(x), r2 = draw(x);
+    uint32_t k = i % 32, link = k / 4 % 2;
+    uint32_t status = (uint32_t)r1 & ~(1u << 16 | 1u << 20);
+    struct model_inputs in = {
+        .opcode = opcode, .byte_code = (uint8_t)(i / 32 % 4),
+        .position = (uint8_t)(r2 % 64), .width = (uint8_t)(r2 / 64 % 32),
+        .macro_select = (uint8_t)(k / 8 % 2),
+        .macro_carry = (uint8_t)(k / 2 % 2), .macro_link = (uint8_t)(1 - link),
+        .borrow = (uint8_t)(k / 16),
+        .a = PATTERNS[i / 3072], .b = PATTERNS[i / 128 % 24],
+        .q = (uint32_t)(r1 >> 32), .status = status | k % 2 << 16 | link << 20};
+    return in;
+}
+
+static uint32_t pattern_or(uint64_t choice, uint64_t drawn)
+{
+    return choice % 2 ? PATTERNS[choice / 2 % 24] : (uint32_t)drawn;
+}
+
+/* Puts one input out of range. */
+static void spoil(struct model_inputs *in, uint64_t kind, uint64_t s)
+{
+    uint8_t *switches[4] = {&in->macro_select, &in->macro_carry,
+                            &in->macro_link, &in->borrow};
+    if (kind == 0)
+        in->byte_code = (uint8_t)(in->byte_code + 4 * s);
+    else if (kind == 1)
+        in->position = (uint8_t)(in->position + 64 * s);
+    else if (kind == 2)
+        in->width = (uint8_t)(in->width + 32 * s);
+    else if (kind < 7)
+        *switches[kind - 3] = (uint8_t)(*switches[kind - 3] + 2 * s);
+    else {
+        in->opcode = (uint8_t)(in->opcode + 128);
+        in->byte_code = (uint8_t)(in->byte_code + 4 * (s - 1));
+    }
+}
+
+static struct model_inputs random_case(uint8_t opcode, uint64_t *x)
+{
+    uint64_t r1 = draw(x), r2 = draw(x), r3 = draw(x);
+    struct model_inputs in = {
+        .opcode = opcode, .byte_code = (uint8_t)((r3 >> 11) % 4),
+        .position = (uint8_t)(r3 % 64), .width = (uint8_t)((r3 >> 6) % 32),
+        .macro_select = (uint8_t)((r3 >> 13) % 2),
+        .macro_carry = (uint8_t)((r3 >> 14) % 2),
+        .macro_link = (uint8_t)((r3 >> 15) % 2),
+        .borrow = (uint8_t)((r3 >> 16) % 2),
+        .a = pattern_or((r3 >> 17) % 64, r2 >> 32),
+        .b = pattern_or((r3 >> 23) % 64, r2),
+        .q = pattern_or((r3 >> 29) % 64, r1 >> 32), .status = (uint32_t)r1};
+    if ((r3 >> 35) % 16 == 0)
+        spoil(&in, (r3 >> 39) % 8, (r3 >> 42) % 2 + 1);
+    return in;
+}
+
+static uint64_t digest_of(uint8_t opcode)
+{
+    uint64_t x = stepped(0x9E3779B97F4A7C15u ^ opcode), sum = 1;
+    for (uint32_t i = 0; i < CASES; i++) {
+        struct model_inputs in = i < SYSTEMATIC ? systematic(opcode, i, &x)
+                                                : random_case(opcode, &x);
+        struct model_answer out = model_single(&in);
+        const uint32_t values[6] = {out.reason, out.place, out.y,
+                                    out.parity, out.q,     out.status};
+        for (int j = 0; j < 6; j++)
+            sum = next(sum ^ values[j]);
+    }
+    return sum;
+}
+
+static int print_digest(void)
+{
+    for (unsigned opcode = 0; opcode < 128; opcode++)
+        printf("%02X %016" PRIX64 "\n", opcode, digest_of((uint8_t)opcode));
+    return 0;
+}
+
+/* ---- Lines -------------------------------------------------------------- */
+
+/* The longest line is an interrupted run with some 1,026 entries. */
+static char line[1 << 16];
+static char answer_text[1 << 13];
+
+/* Two hex digits a byte, four an entry, eight a register. */
+static uint64_t hex_number(const char *text, size_t digits)
+{
+    char buffer[17] = {0};
+    memcpy(buffer, text, digits);
+    return strtoull(buffer, NULL, 16);
+}
+
+static int vector_holds(void)
+{
+    struct model_inputs in;
+    struct model_answer out;
+    uint64_t v[12];
+    const char *at = line;
+    for (int i = 0; i < 12; i++) {
+        v[i] = hex_number(at, i < 8 ? 2 : 8);
+        at += i < 8 ? 3 : 9;
+    }
+    in = (struct model_inputs){
+        (uint8_t)v[0], (uint8_t)v[1], (uint8_t)v[2], (uint8_t)v[3],
+        (uint8_t)v[4], (uint8_t)v[5], (uint8_t)v[6], (uint8_t)v[7],
+        (uint32_t)v[8], (uint32_t)v[9], (uint32_t)v[10], (uint32_t)v[11]};
+    out = model_single(&in);
+    snprintf(answer_text, sizeof answer_text,
+             "%02" PRIX32 " %02" PRIX32 " %08" PRIX32 " %08" PRIX32
+             " %08" PRIX32 "\n",
+             out.reason, out.parity, out.y, out.q, out.status);
+    return strlen(line) == 93 && strcmp(at, answer_text) == 0;
+}
+
+/* A list of hex numbers that ends at a space; `-` is an empty one. Gives how
+ * many there are and moves on to the next. */
+static size_t hex_list(const char **at, size_t digits, uint64_t *values)
+{
+    size_t count = 0;
+    if (**at == '-')
+        ++*at;
+    while (**at != ' ' && **at != '\n' && **at != 0) {
+        values[count++] = hex_number(*at, digits);
+        *at += digits;
+    }
+    if (**at != 0)
+        ++*at;
+    return count;
+}
+
+enum { MOST_BYTES = 1 << 12 };
+
+struct interrupt_case {
+    uint8_t main[MOST_BYTES], handler[MOST_BYTES];
+    uint16_t schedule[MOST_BYTES];
+    uint32_t file[64];
+    size_t main_length, handler_length, entries, registers;
+    struct model_machine machine;
+};
+
+static const char *read_interrupt_case(struct interrupt_case *c)
+{
+    static uint64_t values[MOST_BYTES];
+    const char *at = line;
+    c->main_length = hex_list(&at, 2, values);
+    for (size_t i = 0; i < c->main_length; i++)
+        c->main[i] = (uint8_t)values[i];
+    c->handler_length = hex_list(&at, 2, values);
+    for (size_t i = 0; i < c->handler_length; i++)
+        c->handler[i] = (uint8_t)values[i];
+    c->entries = hex_list(&at, 4, values);
+    for (size_t i = 0; i < c->entries; i++)
+        c->schedule[i] = (uint16_t)values[i];
+    c->registers = hex_list(&at, 8, values);
+    for (size_t i = 0; i < c->registers; i++)
+        c->file[i] = (uint32_t)values[i];
+    hex_list(&at, 8, values);
+    c->machine.q = (uint32_t)values[0];
+    hex_list(&at, 8, values);
+    c->machine.status = (uint32_t)values[0];
+    return at;
+}
+
+static void print_interrupt_answer(const struct interrupt_case *c,
+                                   struct model_verdict v)
+{
+    char *out = answer_text;
+    out += sprintf(out, "%02" PRIX32 " %08" PRIX64 " %02" PRIX32 " ", v.reason,
+                   v.place, v.mark);
+    if (c->registers == 0)
+        *out++ = '-';
+    for (size_t i = 0; i < c->registers; i++)
+        out += sprintf(out, "%08" PRIX32, c->file[i]);
+    sprintf(out, " %08" PRIX32 " %08" PRIX32 "\n", c->machine.q,
+            c->machine.status);
+}
+
+static int interrupt_holds(void)
+{
+    static struct interrupt_case c;
+    const char *expected = read_interrupt_case(&c);
+    struct model_verdict v = model_run_interrupted(
+        c.main, c.main_length, c.handler, c.handler_length, c.schedule,
+        c.entries, c.file, c.registers, &c.machine);
+    print_interrupt_answer(&c, v);
+    return strcmp(expected, answer_text) == 0;
+}
+
+/* Every line of standard input holds. */
+static int all_lines(const char *what, int (*holds)(void))
+{
+    unsigned long lines = 0, misses = 0;
+    while (fgets(line, sizeof line, stdin)) {
+        lines++;
+        if (!holds()) {
+            misses++;
+            printf("%s: line %lu\n  expected ..%s  model says %s", what, lines,
+                   strlen(line) > 60 ? line + strlen(line) - 60 : line,
+                   answer_text);
+        }
+    }
+    printf("%s: %lu lines, %lu misses\n", what, lines, misses);
+    return lines == 0 || misses != 0;
+}
+
+/* ---- Trace -------------------------------------------------------------- */
+
+/* The largest input is 4 + 6 x 4,095 + 4 x 64 bytes; more is as good as long. */
+enum { MOST_INPUT = 24832, MOST_TEXT = 40 * 4096 };
+
+struct trace_input {
+    uint8_t bytes[MOST_INPUT];
+    size_t length;
+    size_t sheet_length; /* where the verdict is done */
+    uint32_t file[64];
+    size_t registers;
+};
+
+/* 3, 4, 5, then 6 on the whole total, then the words. */
+static struct model_verdict check_input(struct trace_input *in)
+{
+    struct model_verdict v = model_check(in->bytes, in->length);
+    size_t count, total;
+    if (v.reason >= MODEL_SHORT && v.reason <= MODEL_HEADER)
+        return v;
+    count = (size_t)(in->bytes[0] & 15) << 8 | in->bytes[1];
+    in->registers = in->bytes[2] >> 1;
+    in->sheet_length = MODEL_HEADER_BYTES + MODEL_WORD_BYTES * count;
+    total = in->sheet_length + 4 * in->registers;
+    if (in->length != total)
+        return (struct model_verdict){.reason = MODEL_LENGTH};
+    return model_check(in->bytes, in->sheet_length);
+}
+
+static void read_file_registers(struct trace_input *in)
+{
+    const uint8_t *p = in->bytes + in->sheet_length;
+    for (size_t i = 0; i < in->registers; i++, p += 4)
+        in->file[i] = (uint32_t)p[0] << 24 | (uint32_t)p[1] << 16 |
+                      (uint32_t)p[2] << 8 | (uint32_t)p[3];
+}
+
+/* The trace program's text. Leaves the file and the machine as they end. */
+static struct model_verdict trace(struct trace_input *in,
+                                  struct model_machine *machine, char *text)
+{
+    struct model_verdict v = check_input(in);
+    if (v.reason == MODEL_DONE) {
+        read_file_registers(in);
+        v.place = (in->sheet_length - MODEL_HEADER_BYTES) / MODEL_WORD_BYTES;
+        for (uint64_t i = 0; i < v.place; i++) {
+            uint32_t y = model_step(in->bytes, i, in->file, machine);
+            text += sprintf(text,
+                            "%04" PRIX64 " %08" PRIX32 " %08" PRIX32
+                            " %08" PRIX32 "\n",
+                            i, y, machine->q, machine->status);
+        }
+    }
+    sprintf(text, "%02" PRIu32 " %04" PRIX64 "\n", v.reason, v.place);
+    return v;
+}
+
+static size_t read_all(const char *name, void *room, size_t most)
+{
+    FILE *file = fopen(name, "rb");
+    size_t length;
+    if (!file) {
+        perror(name);
+        exit(1);
+    }
+    length = fread(room, 1, most, file);
+    fclose(file);
+    return length;
+}
+
+/* Run at once, and in parts of random length, ends as the stepped one did. */
+static int parts_hold(const struct trace_input *ended,
+                      struct model_machine stepped_machine, uint64_t count,
+                      uint64_t *random)
+{
+    for (int in_parts = 0; in_parts < 2; in_parts++) {
+        struct trace_input in = *ended;
+        struct model_machine machine = {0, 0};
+        uint64_t start = 0;
+        read_file_registers(&in);
+        do {
+            uint64_t part = in_parts ? draw(random) % 9 : UINT64_MAX;
+            uint64_t left = count - start;
+            struct model_verdict v =
+                model_run(in.bytes, in.sheet_length, in.file, in.registers,
+                          &machine, start, part);
+            if (v.reason != MODEL_DONE || v.place != (part < left ? part : left))
+                return 0;
+            start += v.place;
+        } while (start < count);
+        if (memcmp(in.file, ended->file, sizeof in.file) != 0 ||
+            machine.q != stepped_machine.q ||
+            machine.status != stepped_machine.status)
+            return 0;
+    }
+    return 1;
+}
+
+/* A start past the end and a file too small are refused, nothing changed. */
+static int refusals_hold(const struct trace_input *ended, uint64_t count)
+{
+    struct trace_input in = *ended;
+    struct model_machine machine = {0x12345678, 0xFFFFFFFF};
+    struct model_verdict start =
+        model_run(in.bytes, in.sheet_length, in.file, in.registers, &machine,
+                  count + 1, 1);
+    struct model_verdict file =
+        model_run(in.bytes, in.sheet_length, in.file, in.registers - 1,
+                  &machine, count + 1, 1);
+    return start.reason == MODEL_START && start.place == 0 &&
+           file.reason == MODEL_FILE && file.place == 0 &&
+           memcmp(in.file, ended->file, sizeof in.file) == 0 &&
+           machine.q == 0x12345678 && machine.status == 0xFFFFFFFF;
+}
+
+/* FILE.out for FILE.in. */
+static const char *text_name(const char *name)
+{
+    static char out[4096];
+    snprintf(out, sizeof out, "%.*sout", (int)strlen(name) - 2, name);
+    return out;
+}
+
+static int check_traces(char **names, int count)
+{
+    static struct trace_input in;
+    static char text[MOST_TEXT], expected[MOST_TEXT];
+    uint64_t random = stepped(3);
+    int misses = 0, accepted = 0;
+    uint64_t words = 0;
+    for (int i = 0; i < count; i++) {
+        struct model_machine machine = {0, 0};
+        struct model_verdict v;
+        const char *name = names[i];
+        memset(&in, 0, sizeof in);
+        in.length = read_all(name, in.bytes, sizeof in.bytes);
+        v = trace(&in, &machine, text);
+        expected[read_all(text_name(name), expected, sizeof expected - 1)] = 0;
+        if (strcmp(text, expected) != 0) {
+            misses++;
+            printf("traces: %s differs\n", name);
+        }
+        if (v.reason != MODEL_DONE)
+            continue;
+        accepted++;
+        words += v.place;
+        if (!parts_hold(&in, machine, v.place, &random) ||
+            !refusals_hold(&in, v.place)) {
+            misses++;
+            printf("traces: %s: runs differ\n", name);
+        }
+    }
+    printf("traces: %d inputs, %d accepted with %" PRIu64
+           " words, each run at once and in parts; %d misses\n",
+           count, accepted, words, misses);
+    return count == 0 || misses != 0;
+}
+
+static int print_trace(void)
+{
+    static struct trace_input in;
+    static char text[MOST_TEXT];
+    struct model_machine machine = {0, 0};
+    in.length = fread(in.bytes, 1, sizeof in.bytes, stdin);
+    trace(&in, &machine, text);
+    fputs(text, stdout);
+    return 0;
+}
+
+/* ---- Packing and unpacking ---------------------------------------------- */
+
+static unsigned long tried, missed;
+
+static void expect(int holds, const char *what)
+{
+    tried++;
+    if (!holds) {
+        missed++;
+        printf("miss: %s\n", what);
+    }
+}
+
+/* Six bytes unpack and pack to themselves, or are refused with the reason that
+ * a sheet of this one word is refused with. */
+static void try_bytes(const uint8_t *bytes)
+{
+    static const struct model_word zero;
+    struct model_word word;
+    uint8_t packed[7] = {0, 0, 0, 0, 0, 0, 0xA5};
+    uint8_t sheet[10] = {0x10, 0x01, 0x80, 0x00};
+    struct model_verdict v = model_unpack(bytes, 6, &word), whole;
+    memcpy(sheet + 4, bytes, 6);
+    whole = model_check(sheet, sizeof sheet);
+    expect(v.reason == whole.reason && v.place == 0, "sheet of one word");
+    if (v.reason != MODEL_DONE) {
+        expect(memcmp(&word, &zero, sizeof zero) == 0, "refused word not zero");
+        return;
+    }
+    expect(model_pack(&word, packed, 5).reason == MODEL_ROOM, "room, pack");
+    expect(packed[0] == 0, "bytes changed by a refusal");
+    expect(model_pack(&word, packed, 7).reason == MODEL_DONE, "pack");
+    expect(memcmp(bytes, packed, 6) == 0 && packed[6] == 0xA5, "round trip");
+    word.position |= 64;
+    expect(model_pack(&word, packed, 0).reason == MODEL_INPUTS, "inputs");
+    word.opcode = 0x4C;
+    expect(model_pack(&word, packed, 0).reason == MODEL_OPCODE, "opcode");
+}
+
+static int try_words(void)
+{
+    uint64_t x = stepped(4);
+    struct model_word word;
+    uint8_t bytes[6];
+    for (int i = 0; i < 20000; i++) {
+        uint64_t bits = draw(&x);
+        for (int j = 0; j < 6; j++)
+            bytes[j] = (uint8_t)(bits >> (8 * j + 8));
+        if (bits % 8 != 0)
+            bytes[5] &= 0xE0;
+        try_bytes(bytes);
+    }
+    bytes[5] |= 1;
+    expect(model_unpack(bytes, 5, &word).reason == MODEL_ROOM, "room, unpack");
+    printf("words: %lu checks of packing and unpacking, %lu misses\n", tried,
+           missed);
+    return missed != 0;
+}
+
+/* ---- The handler's form ------------------------------------------------- */
+
+enum { SAVE_S = 2, SAVE_Q = 3, OWN = 4, OTHER = 5, BODY = 4, LAST = 6 };
+
+/* The fields of a word as an array, in the order of struct model_word. */
+enum { OPCODE, BYTE_CODE, POSITION, WIDTH, A, B, Y, WRITE, SELECT, FIELDS = 12 };
+
+typedef uint8_t fields[FIELDS];
+
+static const fields GOOD[LAST + 1] = {
+    {OP_PASS_STAT, 0, 1, 2, OWN, OWN, SAVE_S, 1},
+    {OP_PASS_Q, 0, 1, 2, OWN, OWN, SAVE_Q, 1},
+    {OP_LOADQ_A, 0, 1, 2, OWN, OWN, OWN, 0},
+    {OP_LDSTAT_A, 0, 1, 2, OWN, OWN, OWN, 0},
+    {OP_ADD, 0, 1, 2, OWN, OWN, OWN, 1},
+    {OP_LOADQ_A, 0, 1, 2, SAVE_Q, OWN, OWN, 0},
+    {OP_LDSTAT_A, 0, 1, 2, SAVE_S, OWN, OWN, 0}};
+
+/* The place where a handler with this one field changed breaks the form by
+ * document 01, or -1: position and width are free, and so is the body but for
+ * the save registers. */
+static int place_of_change(int word, int at, uint8_t value)
+{
+    if (value == GOOD[word][at] || at == POSITION || at == WIDTH)
+        return -1;
+    if (at < A || at > Y)
+        return word == BODY ? -1 : word;
+    if (at == Y && word < 2) { /* s or q is another register now */
+        if (value == (word == 0 ? SAVE_Q : SAVE_S))
+            return 1;
+        if (value == OWN)
+            return 0; /* which word 0 names in A */
+        return word == 0 ? LAST : LAST - 1;
+    }
+    if (value == SAVE_S || value == SAVE_Q)
+        return word;
+    return at == A && word > BODY ? word : -1;
+}
+
+static void try_change(int word, int at, uint8_t value)
+{
+    uint8_t sheet[4 + 6 * (LAST + 1)] = {0x10, LAST + 1, 6 << 1, 0};
+    int expected = place_of_change(word, at, value);
+    struct model_verdict v;
+    for (int i = 0; i <= LAST; i++) {
+        struct model_word packed;
+        fields f;
+        memcpy(f, GOOD[i], sizeof f);
+        if (i == word)
+            f[at] = value;
+        memcpy(&packed, f, sizeof packed);
+        model_pack(&packed, sheet + 4 + 6 * i, 6);
+    }
+    v = model_check_handler(sheet, sizeof sheet);
+    expect(expected < 0 ? v.reason == MODEL_DONE && v.place == 0
+                        : v.reason == MODEL_FORM &&
+                              v.place == (uint64_t)expected,
+           "handler with one field changed");
+}
+
+static int try_forms(void)
+{
+    static const uint8_t opcodes[] = {OP_PASS_STAT, OP_PASS_Q, OP_LOADQ_A,
+                                      OP_LOADQ_B, OP_LDSTAT_A, OP_LDSTAT_B,
+                                      OP_ADD};
+    for (int word = 0; word <= LAST; word++) {
+        for (size_t i = 0; i < sizeof opcodes; i++)
+            try_change(word, OPCODE, opcodes[i]);
+        for (uint8_t value = 0; value < 4; value++)
+            try_change(word, BYTE_CODE, value);
+        for (uint8_t value = 0; value < 32; value++) {
+            try_change(word, POSITION, value);
+            try_change(word, WIDTH, value);
+        }
+        for (int at = A; at <= Y; at++)
+            for (uint8_t value = 0; value <= OTHER; value++)
+                try_change(word, at, value);
+        for (int at = WRITE; at < FIELDS; at++)
+            for (uint8_t value = 0; value < 2; value++)
+                try_change(word, at, value);
+    }
+    printf("forms: %lu handlers, %lu misses\n", tried, missed);
+    return missed != 0;
+}
+
+int main(int count, char **words)
+{
+    const char *mode = count > 1 ? words[1] : "";
+    if (strcmp(mode, "vectors") == 0)
+        return all_lines("vectors", vector_holds);
+    if (strcmp(mode, "digest") == 0)
+        return print_digest();
+    if (strcmp(mode, "interrupts") == 0)
+        return all_lines("interrupts", interrupt_holds);
+    if (strcmp(mode, "trace") == 0)
+        return print_trace();
+    if (strcmp(mode, "traces") == 0)
+        return check_traces(words + 2, count - 2);
+    if (strcmp(mode, "words") == 0)
+        return try_words();
+    if (strcmp(mode, "forms") == 0)
+        return try_forms();
+    fputs("usage: test-model vectors | digest | interrupts | trace\n"
+          "       test-model words | forms | traces FILE.in...\n", stderr);
+    return 2;
+}
