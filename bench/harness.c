@@ -1,8 +1,8 @@
 /*
  * Times the engines on the benchmark's sheets: nanoseconds a word, the best of
- * several repeats, and each engine's ratio to the first. See README.md.
+ * several repeats, and each other engine's ratio to the first. See README.md.
  *
- *   harness [REPEATS]       default 15
+ *   harness [REPEATS]       default 25
  */
 #define _POSIX_C_SOURCE 199309L
 #include "model.h"
@@ -60,20 +60,21 @@ static struct end c_run_interrupted(
 }
 
 /*
- * >>> THE PROVED LIBRARY GOES HERE. <<<
- * Two functions like the two above, over the library's C interface, and a row
- * below, under BENCH_PROVED (run.sh would set it and link the archive):
- *
- *     #ifdef BENCH_PROVED
- *     #include "../include/am29332.h"
- *     static struct end proved_run(..) { .. }
- *     static struct end proved_run_interrupted(..) { .. }
- *     #endif
+ * >>> THE PROVED LIBRARY PLUGS IN HERE. <<<
+ * proved.h, which does not exist yet, has two functions like the two above over
+ * the library's C interface: proved_run and proved_run_interrupted. run.sh sets
+ * BENCH_PROVED and links the archive as soon as the file is there.
  */
+#ifdef BENCH_PROVED
+#include "proved.h"
+#endif
 
+/* The first is what the others are measured against. */
 static const struct engine engines[] = {
     {"C model", c_run, c_run_interrupted},
-    /* {"proved", proved_run, proved_run_interrupted}, */
+#ifdef BENCH_PROVED
+    {"proved", proved_run, proved_run_interrupted},
+#endif
 };
 
 enum { ENGINES = sizeof engines / sizeof *engines };
@@ -115,16 +116,18 @@ static uint64_t run_once(const struct engine *engine,
     return end.place;
 }
 
+/* Processor time of this process in nanoseconds: what else runs on the machine
+ * does not count. */
 static double now(void)
 {
     struct timespec t;
-    clock_gettime(CLOCK_MONOTONIC, &t);
+    clock_gettime(CLOCK_PROCESS_CPUTIME_ID, &t);
     return (double)t.tv_sec * 1e9 + (double)t.tv_nsec;
 }
 
 /* A repeat runs the sheet as often as makes about this many words: some
  * milliseconds. */
-enum { WORDS_A_REPEAT = 400000 };
+enum { WORDS_A_REPEAT = 200000 };
 
 /* Nanoseconds a word over one repeat; the state goes on from repeat to
  * repeat. */
@@ -174,7 +177,7 @@ static void print_row(const struct bench_case *c, const double best[ENGINES])
 int main(int count, char **words)
 {
     static struct bench_case c;
-    int repeats = count > 1 ? atoi(words[1]) : 15;
+    int repeats = count > 1 ? atoi(words[1]) : 25;
     printf("nanoseconds a word, best of %d\n%-11s", repeats, "sheet");
     for (int e = 0; e < ENGINES; e++)
         printf(" %10s", engines[e].name);

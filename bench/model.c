@@ -60,13 +60,15 @@ INLINE uint32_t shift_of(uint64_t word)
     return (0u - (uint32_t)(word >> AT_I7)) % 4 * 8;
 }
 
-/* Eight bytes, high first. Compilers make one load of it. */
-INLINE uint64_t big_endian_64(const uint8_t *p)
+/* Eight bytes, high first, by one load. */
+INLINE uint64_t big_endian_64(const uint8_t *bytes)
 {
-    return (uint64_t)p[0] << 56 | (uint64_t)p[1] << 48 |
-           (uint64_t)p[2] << 40 | (uint64_t)p[3] << 32 |
-           (uint64_t)p[4] << 24 | (uint64_t)p[5] << 16 |
-           (uint64_t)p[6] << 8 | (uint64_t)p[7];
+    uint64_t value;
+    memcpy(&value, bytes, sizeof value);
+#if __BYTE_ORDER__ == __ORDER_LITTLE_ENDIAN__
+    value = __builtin_bswap64(value);
+#endif
+    return value;
 }
 
 /* A word of a sheet. At least four bytes of header stand before it, so that
@@ -338,21 +340,20 @@ INLINE uint32_t overflow(uint32_t shift, struct sum sum)
     return (uint32_t)((sum.carries ^ sum.carries >> 1) << shift);
 }
 
-/* Nibble carries of addition (appendix A): carry i is 1 where digit + digit +
- * carry i-1 reaches ten, above 9 too. Each digit sum stands in a byte of its
- * own, even digits low, odd digits high. `ten` and `nine` have bit 4i+3 set
- * where the sum of digits i reaches ten, or nine: a carry is made, or passed
- * on. One more addition, with ones between these bits, runs the chain. */
-INLINE uint32_t nibble_carries(uint32_t x, uint32_t y, uint32_t carry)
+/* Nibble carries of addition, appendix A's two conditions in bit 3 of every
+ * nibble at once: digit + digit + binary carry in is over 9; or the digits make
+ * 9, there is no binary carry in, and the nibble below has a nibble carry. The
+ * first makes a carry, the second passes one on, so one more addition with ones
+ * in between runs the chain. It leaves the complement of each nibble carry in
+ * the bit above its nibble. */
+INLINE uint32_t nibble_carries(struct sum sum)
 {
-    const uint64_t digit = 0x0F0F0F0F0F0F0F0F, high = 0x8080808080808080;
-    uint64_t sums = ((x | (uint64_t)x << 28) & digit) +
-                    ((y | (uint64_t)y << 28) & digit);
-    uint64_t tens = (sums + 0x7676767676767676) & high;
-    uint64_t nines = (sums + 0x7777777777777777) & high;
-    uint32_t ten = (uint32_t)(tens >> 4 | tens >> 32);
-    uint32_t nine = (uint32_t)(nines >> 4 | nines >> 32) | 0x77777777;
-    return (uint32_t)(add(nine, ten, carry).carries >> 4);
+    uint32_t f = sum.f;
+    uint32_t middle = f << 1 | f << 2;
+    uint32_t out = (uint32_t)(sum.carries >> 1), in = (uint32_t)sum.carries << 3;
+    uint32_t over = ((f & middle) | out) & 0x88888888;
+    uint32_t nine = f & f << 3 & ~(middle | in);
+    return ~(uint32_t)(((0x177777777ull | over | nine) + over) >> 4);
 }
 
 /* Nibble borrows of subtraction: the complements of the carries out of each
@@ -376,8 +377,9 @@ INLINE uint32_t addition(struct machine *m, uint32_t shift, uint32_t x,
                          uint32_t y, uint32_t carry, uint32_t other,
                          uint32_t invert)
 {
-    m->nibbles = nibble_carries(x, y, carry);
-    return with_flags(m, shift, add(x, y, carry), other, invert);
+    struct sum sum = add(x, y, carry);
+    m->nibbles = nibble_carries(sum);
+    return with_flags(m, shift, sum, other, invert);
 }
 
 /* SUB, SUBC, SUBR, SUBRC, NEG, DECR: x + not y + carry, C = carry xor borrow. */

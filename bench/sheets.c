@@ -86,17 +86,17 @@ static void fill_file(struct bench_case *c, uint64_t seed)
  * the candidate words in 16 to 23. */
 enum {
     R_DIFFERENCE = 1,
-    R_HIGH = 2,       /* high half of the product, three bytes */
-    R_LOW = 3,        /* low half */
-    R_SUM_HIGH = 4,   /* the distance so far */
+    R_HIGH = 2, /* the product, three bytes and three */
+    R_LOW = 3,
+    R_SUM_HIGH = 4, /* the distance so far, likewise */
     R_SUM_LOW = 5,
-    R_BEST = 6,       /* the best distance */
-    R_LOG = 7,        /* packed scores */
-    R_LESS = 24,      /* is this word's distance less? */
-    R_MASK = 25,
-    R_TEMPORARY = 26,
+    R_BEST = 6, /* high half of the best distance */
+    R_LOG = 7,  /* packed scores */
     R_SPOKEN = 8,
-    R_CANDIDATE = 16
+    R_CANDIDATE = 16,
+    R_LESS = 24, /* is the distance less than the best? */
+    R_MASK = 25,
+    R_TEMPORARY = 26
 };
 
 /* Three-byte multiply as document 01 has it, multiplier in Q: the product of a
@@ -136,33 +136,38 @@ static void put_choice(struct bench_sheet *sheet, int feature)
     put(sheet, field_op(OP_ORF_A, 31, 1, R_LESS, R_LOG, R_LOG));
 }
 
-/* As many words of scoring as asked for. */
-static void put_scoring(struct bench_sheet *sheet, size_t count)
+/* Eight features and four choices. */
+static void put_round(struct bench_sheet *sheet)
 {
-    static struct bench_sheet block;
-    size_t bytes = MODEL_WORD_BYTES * count;
-    open_sheet(&block);
     for (int feature = 0; feature < 8; feature++) {
-        put_feature(&block, feature);
+        put_feature(sheet, feature);
         if (feature % 2 == 1)
-            put_choice(&block, feature);
+            put_choice(sheet, feature);
     }
-    for (size_t i = 0; i < bytes; i++)
-        sheet->bytes[MODEL_HEADER_BYTES + i] =
-            block.bytes[MODEL_HEADER_BYTES +
-                        i % (block.length - MODEL_HEADER_BYTES)];
-    sheet->length = MODEL_HEADER_BYTES + bytes;
-    sheet->bytes[0] = (uint8_t)(0x10 | count >> 8);
-    sheet->bytes[1] = (uint8_t)count;
+}
+
+/* Rounds of scoring, 180 words each, cut off at the count asked for. */
+static void put_scoring(struct bench_sheet *sheet, size_t words)
+{
+    static struct bench_sheet round;
+    struct model_word word;
+    open_sheet(&round);
+    put_round(&round);
+    for (size_t i = 0; i < words; i++) {
+        size_t at = MODEL_WORD_BYTES * (i % words_in(&round));
+        model_unpack(round.bytes + MODEL_HEADER_BYTES + at, MODEL_WORD_BYTES,
+                     &word);
+        put(sheet, word);
+    }
 }
 
 /* ---- The other sheets --------------------------------------------------- */
 
 /* ADD alone, over all byte codes. */
-static void put_adds(struct bench_sheet *sheet, size_t count)
+static void put_adds(struct bench_sheet *sheet, size_t words)
 {
     uint64_t x = 42;
-    while (words_in(sheet) < count)
+    while (words_in(sheet) < words)
         put(sheet, op(OP_ADD, (enum byte_code)below(&x, 4), below(&x, 32),
                       below(&x, 32), below(&x, 32)));
 }
@@ -172,12 +177,12 @@ static int has_page(int opcode)
     return opcode >> 1 != 0x1E >> 1 && opcode >> 1 != 0x4C >> 1;
 }
 
-/* A word with any fields, on registers `first` to `first + 31`. */
-static struct model_word any_word(uint64_t *x, int opcode, int first)
+/* A word with any fields, on registers 0 to 31. */
+static struct model_word any_word(uint64_t *x, int opcode)
 {
     struct model_word word =
         op((enum model_opcode)opcode, (enum byte_code)below(x, 4),
-           first + below(x, 32), first + below(x, 32), first + below(x, 32));
+           below(x, 32), below(x, 32), below(x, 32));
     word.position = (uint8_t)below(x, 64);
     word.width = (uint8_t)below(x, 32);
     word.write = below(x, 4) != 0;
@@ -189,18 +194,18 @@ static struct model_word any_word(uint64_t *x, int opcode, int first)
 }
 
 /* All 124 operations, each as often as any other, in an order drawn anew for
- * each round. */
-static void put_mix(struct bench_sheet *sheet, int rounds)
+ * each round of 124 words. */
+static void put_mix(struct bench_sheet *sheet, size_t words)
 {
     uint64_t x = 7;
-    for (int round = 0; round < rounds; round++) {
+    while (words_in(sheet) < words) {
         int order[128], count = 0;
         for (int opcode = 0; opcode < 128; opcode++)
             if (has_page(opcode))
                 order[count++] = opcode;
         for (; count > 0; count--) {
             int pick = below(&x, count);
-            put(sheet, any_word(&x, order[pick], 0));
+            put(sheet, any_word(&x, order[pick]));
             order[pick] = order[count - 1];
         }
     }
@@ -234,30 +239,37 @@ static void put_schedule(struct bench_case *c, size_t every)
 
 /* ---- The table ---------------------------------------------------------- */
 
+struct plan {
+    const char *name, *what;
+    void (*put)(struct bench_sheet *sheet, size_t words);
+    size_t words;
+    size_t every; /* words between two runs of the handler; 0: no handler */
+};
+
+static const struct plan plans[BENCH_CASES] = {
+    {"scoring", "900 words: three-byte multiply, accumulate, compare, pack",
+     put_scoring, 900, 0},
+    {"adds", "1,000 words: ADD at every byte code", put_adds, 1000, 0},
+    {"mix", "992 words: all 124 operations, eight times each", put_mix, 992, 0},
+    {"longest", "4,095 words: scoring", put_scoring, MODEL_MOST_WORDS, 0},
+    {"six", "6 words: the first of scoring", put_scoring, 6, 0},
+    {"interrupts", "900 words: scoring; a handler of 12 every 10 words",
+     put_scoring, 900, 10},
+    {"storm", "900 words: scoring; the same handler after every word",
+     put_scoring, 900, 1}};
+
 void bench_make(struct bench_case *c, int i)
 {
-    static const char *const names[BENCH_CASES][2] = {
-        {"scoring", "three-byte multiply, accumulate, compare, pack; 984 words"},
-        {"adds", "ADD at every byte code; 1,000 words"},
-        {"mix", "all 124 operations, eight times each; 992 words"},
-        {"longest", "scoring; 4,095 words"},
-        {"six", "the first words of scoring; 6 words"},
-        {"interrupts", "scoring, 984 words; a handler of 12 every 10 words"},
-        {"storm", "scoring, 984 words; the same handler after every word"}};
+    const struct plan *plan = &plans[i];
     memset(c, 0, sizeof *c);
-    c->name = names[i][0];
-    c->what = names[i][1];
+    c->name = plan->name;
+    c->what = plan->what;
     fill_file(c, 0x9E3779B97F4A7C15u + (uint64_t)i);
     open_sheet(&c->main);
     open_sheet(&c->handler);
-    if (i == 1)
-        put_adds(&c->main, 1000);
-    else if (i == 2)
-        put_mix(&c->main, 8);
-    else
-        put_scoring(&c->main, i == 3 ? MODEL_MOST_WORDS : i == 4 ? 6 : 984);
-    if (i >= 5) {
+    plan->put(&c->main, plan->words);
+    if (plan->every != 0) {
         put_handler(&c->handler);
-        put_schedule(c, i == 5 ? 10 : 1);
+        put_schedule(c, plan->every);
     }
 }

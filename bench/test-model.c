@@ -487,7 +487,9 @@ static int try_words(void)
 enum { SAVE_S = 2, SAVE_Q = 3, OWN = 4, OTHER = 5, BODY = 4, LAST = 6 };
 
 /* The fields of a word as an array, in the order of struct model_word. */
-enum { OPCODE, BYTE_CODE, POSITION, WIDTH, A, B, Y, WRITE, SELECT, FIELDS = 12 };
+enum { OPCODE, BYTE_CODE, POSITION, WIDTH, A, B, Y, WRITE, FIELDS = 12 };
+
+_Static_assert(sizeof(struct model_word) == FIELDS, "a byte a field");
 
 typedef uint8_t fields[FIELDS];
 

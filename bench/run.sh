@@ -1,0 +1,57 @@
+#!/bin/sh
+# Builds the benchmark at -O3 and runs it: bench/run.sh [REPEATS].
+# Works from any directory. CC may name the compiler.
+#
+# The proved library is x86-64 code. Once it takes part (proved.h and
+# target/staticlib/libam29332.a are there), or with TARGET=x86-64, a machine of
+# another kind builds both sides for x86-64 with the kit's compiler and runs
+# them in one process under the kit's emulator. Times are then those of the
+# emulator; the ratio is what to look at.
+set -eu
+here=$(cd -- "$(dirname -- "$0")" && pwd)
+archive=$here/../target/staticlib/libam29332.a
+machine=$(uname -m)
+
+work=$(mktemp -d)
+trap 'rm -rf -- "$work"' EXIT
+trap 'exit 1' HUP INT TERM
+
+proved=
+target=${TARGET:-native}
+if [ -e "$here/proved.h" ]; then
+    [ -e "$archive" ] || { echo "first: rt staticlib am29332" >&2; exit 1; }
+    proved=-DBENCH_PROVED
+    target=x86-64
+fi
+[ "$target" != x86-64 ] || [ "$machine" != x86_64 ] || target=native
+
+# compile COMPILER WORDS..: the objects of the benchmark, in the work folder.
+compile() {
+    for part in model sheets harness; do
+        "$@" -std=c11 -O3 -Wall -Wextra -Werror -fPIE ${proved:+"$proved"} \
+            -c "$here/$part.c" -o "$work/$part.o"
+    done
+}
+
+if [ "$target" = native ]; then
+    compiler=${CC:-$(command -v cc || command -v gcc)}
+    echo "$machine, $("$compiler" --version | head -n 1)"
+    compile "$compiler"
+    "$compiler" -o "$work/harness" "$work"/*.o ${proved:+"$archive"}
+    "$work/harness" "$@"
+else
+    kit=$(dirname -- "$(dirname -- "$(readlink -f "$(command -v rt)")")")
+    chain=$kit/on/$machine/toolchain
+    headers=$(cc -print-file-name=include)
+    echo "x86-64 code under the kit's emulator on $machine, $("$chain/bin/clang" --version | head -n 1)"
+    compile "$chain/bin/clang" --target=x86_64-linux-gnu -nostdinc \
+        -isystem "$headers" -isystem "/usr/include/$(cc -print-multiarch)" \
+        -isystem /usr/include
+    lib=$chain/lib
+    "$chain/bin/ld.lld" -pie -dynamic-linker /lib64/ld-linux-x86-64.so.2 \
+        -o "$work/harness" "$lib/Scrt1.o" "$lib/crti.o" "$lib/crtbeginS.o" \
+        "$work"/*.o ${proved:+"$archive"} "$lib/libc.so.6" \
+        "$lib/libc_nonshared.a" "$lib/libgcc.a" "$lib/crtendS.o" "$lib/crtn.o"
+    "$chain/bin/qemu-x86_64" "$lib/ld-linux-x86-64.so.2" --library-path "$lib" \
+        "$work/harness" "$@"
+fi
