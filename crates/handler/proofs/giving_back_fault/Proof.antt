@@ -1,0 +1,18 @@
+-- The definition's tests, in its order. Assumes nothing.
+use Rattle.handler.specs.Form.{givingBackFault}
+use borrow.Author.Needs.{needs}
+use Rattle.handler.proofs.giving_back_fault.Statement.{statement}
+use Rattle.handler.proofs.giving_back_fault.Tie as tie
+
+not-fixed-requires : tie.Need-not-fixed-requires
+not-fixed-requires c κs = search needs
+
+one-saved-requires : tie.Need-one-saved-requires
+one-saved-requires c κs = search needs
+
+returns : tie.Need-returns
+unfolding givingBackFault
+returns c = rw (c .one-saved .ensures, c .before .before .not-fixed .ensures)
+
+pub giving-back-fault-spec : {M : Type 1} → statement M
+giving-back-fault-spec = tie.close (tie.spec not-fixed-requires one-saved-requires returns)

@@ -1,0 +1,18 @@
+-- The definition's tests, in its order. Assumes nothing.
+use Rattle.handler.specs.Form.{savingStatusFault}
+use borrow.Author.Needs.{needs}
+use Rattle.handler.proofs.saving_status_fault.Statement.{statement}
+use Rattle.handler.proofs.saving_status_fault.Tie as tie
+
+not-fixed-requires : tie.Need-not-fixed-requires
+not-fixed-requires c κs = search needs
+
+one-saved-requires : tie.Need-one-saved-requires
+one-saved-requires c κs = search needs
+
+returns : tie.Need-returns
+unfolding savingStatusFault
+returns c = rw (c .one-saved .ensures, c .before .not-fixed .ensures)
+
+pub saving-status-fault-spec : {M : Type 1} → statement M
+saving-status-fault-spec = tie.close (tie.spec not-fixed-requires one-saved-requires returns)

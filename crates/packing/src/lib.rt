@@ -1,0 +1,194 @@
+// A word of a sheet: 48 bits in six bytes, most significant first, packed and unpacked.
+use chip::Decoded;
+use chip::Word;
+use reasons::Check;
+use reasons::Reason;
+ghost use mathlib.Core.Path.{_≡_};
+ghost use mathlib.Core.List.{_∷_, _++_};
+ghost use Prim.Native.Nat.{_+_, _*_, _^_, _≤_};
+ghost use lib.ListN.{length, drop};
+ghost use lib.Dec.{leb};
+ghost use Rattle.packing.specs.Packing.{number6, fieldsOf, packedNumber, bytes6, lacksPage, some, named, tooLarge, InRange, ended, packOf, unpackOf, unpackedBy, blank};
+
+// What unpacking answers: the word where the check is good, else all fields 0.
+pub struct Unpacked {
+    pub check: Check,
+    pub word: Word,
+}
+
+// Six bytes as one number, the first highest.
+fn joined(b0: u8, b1: u8, b2: u8, b3: u8, b4: u8, b5: u8) -> u64
+    ensures { λ r. ⌜ r ≡ b0 * 2 ^ 40 + b1 * 2 ^ 32 + b2 * 2 ^ 24 + b3 * 2 ^ 16 + b4 * 2 ^ 8 + b5 ⌝ }
+{
+    b0 as u64 * 0x100_0000_0000
+        + b1 as u64 * 0x1_0000_0000
+        + b2 as u64 * 0x100_0000
+        + b3 as u64 * 0x1_0000
+        + b4 as u64 * 0x100
+        + b5 as u64
+}
+
+// The six bytes at the start of `s`, as one number. Public for the crates above, which see to the length.
+pub fn word_number(s: &[u8]) -> u64
+    requires { ⌜ 6 ≤ length (now s) ⌝ }
+    ensures { λ r. ⌜ r ≡ number6 (now (s .entry)) ⌝ }
+{
+    joined(s[0], s[1], s[2], s[3], s[4], s[5])
+}
+
+// The fields of a word's number.
+pub fn fields(v: u64) -> Word
+    ensures { λ r. ⌜ r ≡ fieldsOf v ⌝ }
+{
+    Word {
+        opcode: (v >> 41) as u32,
+        code: ((v >> 39) % 4) as u32,
+        position: ((v >> 33) % 64) as u32,
+        width: ((v >> 28) % 32) as u32,
+        a: ((v >> 22) % 64) as u32,
+        b: ((v >> 16) % 64) as u32,
+        y: ((v >> 10) % 64) as u32,
+        write: ((v >> 9) % 2) as u32,
+        select: ((v >> 8) % 2) as u32,
+        carry: ((v >> 7) % 2) as u32,
+        link: ((v >> 6) % 2) as u32,
+        borrow: ((v >> 5) % 2) as u32,
+    }
+}
+
+// Whether an opcode number has no page in chapter 2 (reason Opcode).
+pub fn lacks_page(n: u32) -> bool
+    ensures { λ r. ⌜ r ≡ lacksPage n ⌝ }
+{
+    match chip::decode(n) {
+        Decoded::Known(_) => false,
+        Decoded::Opcode => true,
+    }
+}
+
+// Whether a field of the word names a register from n on. Here and below `|` tests all, without a branch for each.
+pub fn names_from(n: u32, w: Word) -> bool
+    ensures { λ r. ⌜ r ≡ some (leb n) (named w) ⌝ }
+{
+    (n <= w.a) | (n <= w.b) | (n <= w.y)
+}
+
+// Whether a field is larger than its bits hold.
+fn too_large(w: Word) -> bool
+    ensures { λ r. ⌜ r ≡ tooLarge w ⌝ }
+{
+    (3 < w.code)
+        | (63 < w.position)
+        | (31 < w.width)
+        | (1 < w.select)
+        | (1 < w.carry)
+        | (1 < w.link)
+        | (1 < w.borrow)
+        | names_from(64, w)
+        | (1 < w.write)
+}
+
+// The number of a word's fields.
+fn packed_number(w: Word) -> u64
+    requires { ⌜ InRange w ⌝ }
+    ensures { λ r. ⌜ r ≡ packedNumber w ⌝ }
+{
+    w.opcode as u64 * 0x200_0000_0000
+        + w.code as u64 * 0x80_0000_0000
+        + w.position as u64 * 0x2_0000_0000
+        + w.width as u64 * 0x1000_0000
+        + w.a as u64 * 0x40_0000
+        + w.b as u64 * 0x1_0000
+        + w.y as u64 * 0x400
+        + w.write as u64 * 0x200
+        + w.select as u64 * 0x100
+        + w.carry as u64 * 0x80
+        + w.link as u64 * 0x40
+        + w.borrow as u64 * 0x20
+}
+
+// Six bytes into the first six of `d`.
+fn put(d: &mut [u8], b0: u8, b1: u8, b2: u8, b3: u8, b4: u8, b5: u8)
+    requires { ⌜ 6 ≤ length (now d) ⌝ }
+    ensures { λ _. ⌜ now (d .exit) ≡ b0 ∷ b1 ∷ b2 ∷ b3 ∷ b4 ∷ b5 ∷ drop 6 (now (d .entry)) ⌝ }
+{
+    d[0] = b0;
+    d[1] = b1;
+    d[2] = b2;
+    d[3] = b3;
+    d[4] = b4;
+    d[5] = b5;
+}
+
+// A word's number into the first six bytes of `d`.
+fn put_number(v: u64, d: &mut [u8])
+    requires { ⌜ 6 ≤ length (now d) ⌝ }
+    ensures { λ _. ⌜ now (d .exit) ≡ bytes6 v ++ drop 6 (now (d .entry)) ⌝ }
+{
+    put(
+        d,
+        ((v >> 40) % 256) as u8,
+        ((v >> 32) % 256) as u8,
+        ((v >> 24) % 256) as u8,
+        ((v >> 16) % 256) as u8,
+        ((v >> 8) % 256) as u8,
+        (v % 256) as u8,
+    );
+}
+
+// Packing: the word into the first six bytes of `d`. Where it is refused `d` stays.
+pub fn pack(w: Word, d: &mut [u8]) -> Check
+    ensures { λ r. ⌜ ended r (now (d .exit)) ≡ packOf w (now (d .entry)) ⌝ }
+{
+    if lacks_page(w.opcode) {
+        return Check::Bad {
+            reason: Reason::Opcode,
+            place: 0,
+        };
+    }
+    if too_large(w) {
+        return Check::Bad {
+            reason: Reason::Inputs,
+            place: 0,
+        };
+    }
+    if d.len() < 6 {
+        return Check::Bad {
+            reason: Reason::Room,
+            place: 0,
+        };
+    }
+    put_number(packed_number(w), d);
+    Check::Good
+}
+
+// Unpacking refused: all fields are 0.
+fn refused(reason: Reason) -> Unpacked
+    ensures { λ r. ⌜ r ≡ unpackedBy (Check.Bad reason 0) blank ⌝ }
+{
+    Unpacked {
+        check: Check::Bad { reason, place: 0 },
+        word: fields(0),
+    }
+}
+
+// Unpacking: the word in the first six bytes of `s`.
+pub fn unpack(s: &[u8]) -> Unpacked
+    ensures { λ r. ⌜ r ≡ unpackOf (now (s .entry)) ⌝ }
+{
+    if s.len() < 6 {
+        return refused(Reason::Room);
+    }
+    let number = word_number(s);
+    if number % 32 != 0 {
+        return refused(Reason::Spare);
+    }
+    let word = fields(number);
+    if lacks_page(word.opcode) {
+        return refused(Reason::Opcode);
+    }
+    Unpacked {
+        check: Check::Good,
+        word,
+    }
+}

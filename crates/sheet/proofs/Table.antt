@@ -1,0 +1,166 @@
+-- The table of a sheet: how a check goes through it, that each reason is given exactly when its condition holds and no earlier one does, and
+-- what a sheet that passed has. Assumes nothing.
+use mathlib.Core.Path.{_≡_, refl, ap, _∙_, sym}
+use mathlib.Core.List.{List, [], _∷_, _++_}
+use mathlib.Core.Bool.{Bool, false, _||_}
+use Prim.Native.Nat.{ℕ, _+_, _*_, _≤_, _<_}
+use native.Mathlib.Omega.{arith}
+use borrow.Author.Tests.{lt-ltb, le-ltb, eqb-true, eqb-false, ltb-false, leb-false, not-false}
+use lib.ListN.{length, length-take, length-drop}
+use lib.Dec.{eqb, ltb, leb}
+use Rattle.reasons.specs.Reasons.{Row, _gives_at_, firstOf, rowsBy}
+use Rattle.reasons.specs.declared.Reason.{Reason}
+use Rattle.reasons.specs.declared.Reason.the-variants.{Short, Start}
+use Rattle.reasons.specs.declared.Check.{Check}
+use Rattle.reasons.specs.declared.Check.the-variants.{Good, Bad}
+use Rattle.reasons.proofs.Rows.{None, First, good-none, first-bad, first-good, exactly-if, exactly-only, none-at}
+use Rattle.reasons.proofs.Rows.None.{none, more}
+use Rattle.sheet.specs.declared.Given.{Given}
+use Rattle.sheet.specs.declared.Given.the-variants.{Absent, Number}
+use Rattle.packing.specs.Packing.{some, named, differ}
+use Rattle.sheet.specs.Sheet.{number4, countOf, registersOf, zerosOf, wordsOf, declaredOf, partOf, numberAt, wordAt, fewer, above, wordRows, headRows, sheetRows, checkOf, WordReady, Ready}
+use Rattle.packing.proofs.Numbers.{page-small, or-left, or-right, Every, every, fields-range}
+use Rattle.packing.proofs.Numbers.Every.{end, and}
+
+pub part-six : (s : List ℕ) (k : ℕ) → 4 + 6 * k + 6 ≤ length s → length (partOf s k) ≡ 6
+part-six s k h = simp (length-take, length-drop) (omega arith)
+
+-- ---- how a check goes through the table
+module _ (s : List ℕ) (file start : Given) where
+  abbrev pub head : List Row
+  head = headRows (length s) (number4 s) file
+
+  abbrev pub body : List Row
+  body = rowsBy (wordRows s (declaredOf s)) 0 (wordsOf s)
+
+  abbrev pub tail : List Row
+  tail = (above start (wordsOf s) gives Start at 0) ∷ []
+
+  pub check-short : length s < 4 → Bad Short 0 ≡ checkOf s file start
+  unfolding checkOf sheetRows
+  check-short h = rw (lt-ltb (length s) 4 h) refl
+
+  pub check-head : (r : Reason) (p : ℕ) → 4 ≤ length s → firstOf head ≡ Bad r p → Bad r p ≡ checkOf s file start
+  unfolding checkOf sheetRows
+  check-head r p h e = rw (le-ltb (length s) 4 h) (sym (first-bad head (body ++ tail) r p e))
+
+  pub check-body : (r : Reason) (p : ℕ) → 4 ≤ length s → firstOf head ≡ Good → firstOf body ≡ Bad r p → Bad r p ≡ checkOf s file start
+  unfolding checkOf sheetRows
+  check-body r p h e f =
+      rw (le-ltb (length s) 4 h) (sym (first-good head (body ++ tail) e ∙ first-bad body tail r p f))
+
+  pub check-tail : 4 ≤ length s → firstOf head ≡ Good → firstOf body ≡ Good → firstOf tail ≡ checkOf s file start
+  unfolding checkOf sheetRows
+  check-tail h e f = rw (le-ltb (length s) 4 h) (sym (first-good head (body ++ tail) e ∙ first-good body tail f))
+
+-- what the parts of a check saw, of the header h, its count m and its registers n
+module _ (s : List ℕ) (h n m : ℕ) (eh : h ≡ number4 s) (em : m ≡ countOf h) (en : n ≡ registersOf h) where
+  seen-words : m ≡ wordsOf s
+  unfolding wordsOf
+  seen-words = em ∙ ap countOf eh
+
+  seen-declared : n ≡ declaredOf s
+  unfolding declaredOf
+  seen-declared = en ∙ ap registersOf eh
+
+  pub seen-body : (c : Check) → c ≡ firstOf (rowsBy (wordRows s n) 0 m) → firstOf (rowsBy (wordRows s (declaredOf s)) 0 (wordsOf s)) ≡ c
+  seen-body c e = rw (← seen-words, ← seen-declared) (sym e)
+
+  pub seen-tail : (start : Given) (b : Bool) → b ≡ above start m → firstOf ((b gives Start at 0) ∷ []) ≡ firstOf ((above start (wordsOf s) gives Start at 0) ∷ [])
+  seen-tail start b e = rw (← seen-words, e) refl
+
+pub seen-head : (s : List ℕ) (file : Given) (h : ℕ) (c : Check) → h ≡ number4 s → c ≡ firstOf (headRows (length s) h file)
+    → firstOf (headRows (length s) (number4 s) file) ≡ c
+seen-head s file h c eh e = rw (← eh) (sym e)
+
+-- the length of a sheet whose header passed
+pub head-length : (len h : ℕ) (file : Given) → firstOf (headRows len h file) ≡ Good → len ≡ 4 + 6 * countOf h
+head-length len h file e = go (good-none (headRows len h file) e)
+  where
+    go : None (headRows len h file) → len ≡ 4 + 6 * countOf h
+    go (more h₁ (more h₂ (more h₃ t))) = eqb-true len (4 + 6 * countOf h) (not-false _ h₃)
+
+-- ---- Each reason is given exactly when its condition holds and no earlier one does: a check of a sheet answers reason r at place p exactly
+-- where some row of the table gives r at p, its condition holds, and the condition of no row before it does.
+pub given-if : (s : List ℕ) (file start : Given) (r : Reason) (p : ℕ) → First (sheetRows s file start) r p → checkOf s file start ≡ Bad r p
+unfolding checkOf
+given-if s file start r p f = exactly-if (sheetRows s file start) r p f
+
+pub given-only : (s : List ℕ) (file start : Given) (r : Reason) (p : ℕ) → checkOf s file start ≡ Bad r p → First (sheetRows s file start) r p
+unfolding checkOf
+given-only s file start r p e = exactly-only (sheetRows s file start) r p e
+
+-- ---- what a sheet that passed has
+word-ready : (s : List ℕ) (n k : ℕ) → None (wordRows s n k) → WordReady n (wordAt s k)
+unfolding wordRows
+word-ready s n k (more h₁ (more h₂ (more h₃ none))) = go (every (leb n) (named (wordAt s k)) h₃)
+  where
+    go : Every (leb n) (named (wordAt s k)) → WordReady n (wordAt s k)
+    go (and a (and b (and y end))) =
+        record {
+          page = h₂;
+          range = fields-range (numberAt s k) (page-small (wordAt s k .opcode) h₂);
+          a = leb-false n (wordAt s k .a) a;
+          b = leb-false n (wordAt s k .b) b;
+          y = leb-false n (wordAt s k .y) y;
+        }
+
+-- with any file that is not too small for the check
+ready-with : (s : List ℕ) (file start : Given) (n : ℕ) → (fewer file (declaredOf s) ≡ false → declaredOf s ≤ n) → checkOf s file start ≡ Good
+    → Ready s n
+unfolding checkOf sheetRows wordsOf declaredOf
+ready-with s file start n enough e = go (good-none (sheetRows s file start) e)
+  where
+    words-ready : None (rowsBy (wordRows s (declaredOf s)) 0 (wordsOf s) ++ tail s file start) → (k : ℕ) → k < wordsOf s
+        → WordReady (declaredOf s) (wordAt s k)
+    words-ready t k l =
+        word-ready s (declaredOf s) k
+        (none-at (wordRows s (declaredOf s)) 0 (wordsOf s) (front (body s file start) (tail s file start) t) k (omega arith) (omega arith))
+      where
+        front : (a b : List Row) → None (a ++ b) → None a
+        front [] b t = none
+        front (r ∷ rs) b (more i t) = more i (front rs b t)
+
+    positive : (declaredOf s ≡ 0 → ⊥) → 0 < declaredOf s
+    positive p = omega arith
+
+    go : None (sheetRows s file start) → Ready s n
+    go (more h₁ (more h₂ (more h₃ (more h₄ (more h₅ t))))) =
+        let n : ℕ = declaredOf s in
+        let z : Bool = differ (zerosOf (number4 s)) 0 in
+        let h : (z || eqb n 0) ≡ false = or-left (z || eqb n 0) (ltb 64 n) h₃ in
+        record {
+          long = ltb-false (length s) 4 h₁;
+          whole = eqb-true (length s) (4 + 6 * wordsOf s) (not-false _ h₄);
+          some = positive (eqb-false (declaredOf s) 0 (or-right z (eqb n 0) h));
+          few = ltb-false 64 (declaredOf s) (or-right (z || eqb n 0) (ltb 64 n) h₃);
+          file = enough h₅;
+          word = words-ready t;
+        }
+
+-- A sheet that was checked with a file of `lent` registers can be run on them.
+pub ready : (s : List ℕ) (lent : ℕ) (start : Given) → checkOf s (Number lent) start ≡ Good → Ready s lent
+ready s lent start e = ready-with s (Number lent) start lent (λ h. ltb-false lent (declaredOf s) h) e
+
+-- One that was checked on its own can be run on as many registers as it declares.
+pub ready-alone : (s : List ℕ) (start : Given) → checkOf s Absent start ≡ Good → Ready s (declaredOf s)
+ready-alone s start e = ready-with s Absent start (declaredOf s) (λ h. omega arith) e
+
+-- the six bytes of a word of it are there
+pub ready-room : (s : List ℕ) (n k : ℕ) → Ready s n → k < wordsOf s → 4 + 6 * k + 6 ≤ length s
+ready-room s n k r h = omega arith
+
+-- a start word that was checked is at most the count
+pub start-within : (s : List ℕ) (file : Given) (start : ℕ) → checkOf s file (Number start) ≡ Good → start ≤ wordsOf s
+unfolding checkOf sheetRows
+start-within s file start e = go (good-none (sheetRows s file (Number start)) e)
+  where
+    back : (a b : List Row) → None (a ++ b) → None b
+    back [] b t = t
+    back (r ∷ rs) b (more i t) = back rs b t
+
+    last : None (tail s file (Number start)) → start ≤ wordsOf s
+    last (more h none) = ltb-false (wordsOf s) start h
+
+    go : None (sheetRows s file (Number start)) → start ≤ wordsOf s
+    go (more h₁ (more h₂ (more h₃ (more h₄ (more h₅ t))))) = last (back (body s file (Number start)) (tail s file (Number start)) t)

@@ -1,0 +1,81 @@
+-- Each return is a row of the table whose earlier rows do not hold. Assumes nothing.
+use mathlib.Core.Path.{sym, _∙_}
+use borrow.Author.Tests.{eq-eqb, ne-eqb}
+use borrow.Author.Needs.{needs}
+use Rattle.sheet.proofs.check_header.Statement.{statement}
+use Rattle.sheet.proofs.check_header.Tie as tie
+
+returns : tie.Need-returns
+returns c = rw (ne-eqb _ _ (c .if1 .taken))
+
+bad-header-requires : tie.Need-bad-header-requires
+bad-header-requires c κs = search needs
+
+returns-2 : tie.Need-returns-2
+returns-2 c = rw (eq-eqb _ _ (c .before .before .if1 .left), sym (c .before .bad-header .ensures) ∙ c .if2 .taken)
+
+count-requires : tie.Need-count-requires
+count-requires c κs = search needs
+
+mul-if3 : tie.Need-mul-if3
+mul-if3 c = search needs
+
+add-if3 : tie.Need-add-if3
+add-if3 c = search needs
+
+returns-3 : tie.Need-returns-3
+returns-3 c =
+    rw (
+      eq-eqb _ _ (c .before .before .before .before .if1 .left),
+      sym (c .before .before .before .bad-header .ensures) ∙ c .before .before .if2 .left,
+      ← c .before .count .ensures,
+      ne-eqb _ _ (c .if3 .taken),
+    )
+
+registers-requires : tie.Need-registers-requires
+registers-requires c κs = search needs
+
+cast-lends-fewer : tie.Need-cast-lends-fewer
+cast-lends-fewer c = search needs
+
+lends-fewer-requires : tie.Need-lends-fewer-requires
+lends-fewer-requires c κs = search needs
+
+returns-4 : tie.Need-returns-4
+returns-4 c =
+    rw (
+      eq-eqb _ _ (c .before .before .before .before .before .before .before .if1 .left),
+      sym (c .before .before .before .before .before .before .bad-header .ensures) ∙ c .before .before .before .before .before .if2 .left,
+      ← c .before .before .before .before .count .ensures,
+      eq-eqb _ _ (c .before .before .before .if3 .left),
+      ← c .before .before .registers .ensures,
+      sym (c .before .lends-fewer .ensures) ∙ c .if4 .taken,
+    )
+
+returns-5 : tie.Need-returns-5
+returns-5 c =
+    rw (
+      eq-eqb _ _ (c .before .before .before .before .before .before .before .if1 .left),
+      sym (c .before .before .before .before .before .before .bad-header .ensures) ∙ c .before .before .before .before .before .if2 .left,
+      ← c .before .before .before .before .count .ensures,
+      eq-eqb _ _ (c .before .before .before .if3 .left),
+      ← c .before .before .registers .ensures,
+      sym (c .before .lends-fewer .ensures) ∙ c .if4 .left,
+    )
+
+pub check-header-spec : {M : Type 1} → statement M
+check-header-spec =
+    tie.close
+    (tie.spec
+    returns
+    bad-header-requires
+    returns-2
+    count-requires
+    mul-if3
+    add-if3
+    returns-3
+    registers-requires
+    cast-lends-fewer
+    lends-fewer-requires
+    returns-4
+    returns-5)

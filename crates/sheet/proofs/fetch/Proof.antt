@@ -1,0 +1,26 @@
+-- The part of the sheet that the mark names. Assumes nothing.
+use borrow.Author.Needs.{needs}
+use Rattle.sheet.proofs.fetch.Statement.{statement}
+use Rattle.sheet.proofs.fetch.Tie as tie
+
+enum-told : tie.Need-enum-told
+enum-told c = search needs
+
+part-requires : tie.Need-part-requires
+part-requires c κs = rw (c .enum-told .given .1) at (c .before .before .before .before .pre)
+
+enum-told-2 : tie.Need-enum-told-2
+enum-told-2 c = search needs
+
+part-requires-2 : tie.Need-part-requires-2
+part-requires-2 c κs = rw (c .enum-told2 .given .1) at (c .before .before .before .before .pre)
+
+returns : tie.Need-returns
+returns c = rw (c .before .enum-told .given .1) (c .part .ensures)
+
+returns-2 : tie.Need-returns-2
+returns-2 c = rw (c .before .enum-told2 .given .1) (c .part2 .ensures)
+
+pub fetch-spec : {M : Type 1} → statement M
+fetch-spec =
+    tie.close (tie.spec enum-told part-requires enum-told-2 part-requires-2 returns returns-2)

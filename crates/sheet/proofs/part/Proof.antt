@@ -1,0 +1,37 @@
+-- The range is six long. Assumes nothing.
+use mathlib.Core.Path.{ap}
+use Prim.Native.Nat.{ℕ, _+_, _*_}
+use native.Mathlib.Nat.{add-sub-cancel-left}
+use lib.ListN.{take, drop}
+use denote.Ref.{now}
+use borrow.Author.Needs.{needs}
+use Rattle.sheet.proofs.part.Statement.{statement}
+use Rattle.sheet.proofs.part.Tie as tie
+
+mul-from : tie.Need-mul-from
+mul-from c = search needs
+
+add-from : tie.Need-add-from
+add-from c = search needs
+
+add-to : tie.Need-add-to
+add-to c = search needs
+
+sub-result : tie.Need-sub-result
+sub-result c = search needs
+
+part-result-start : tie.Need-part-result-start
+part-result-start c = search needs
+
+part-result-end : tie.Need-part-result-end
+part-result-end c = search needs
+
+returns : tie.Need-returns
+returns c =
+    let a = c .before .args in
+    ap (λ (k : ℕ). take k (drop (4 + 6 * a .index) (now (a .s)))) (add-sub-cancel-left (4 + 6 * a .index) 6)
+
+pub part-spec : {M : Type 1} → statement M
+part-spec =
+    tie.close
+    (tie.spec mul-from add-from add-to sub-result part-result-start part-result-end returns)

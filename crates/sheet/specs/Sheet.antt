@@ -1,0 +1,121 @@
+-- A sheet: its header, its words, and the reasons for which it is refused, as one ordered table (document 01, 'Sheets and words' and
+-- 'Reasons given'). Assumes nothing.
+use mathlib.Core.Path.{_≡_}
+use mathlib.Core.List.{List, [], _∷_, _++_}
+use mathlib.Core.Bool.{Bool, false, _||_}
+use Prim.Native.Nat.{ℕ, _+_, _*_, _/_, _%_, _^_, _<_, _≤_}
+use lib.ListN.{length, getD, take, drop}
+use lib.Dec.{eqb, ltb, leb}
+use Rattle.reasons.specs.Reasons.{Row, _gives_at_, firstOf, rowsBy}
+use Rattle.reasons.specs.declared.Reason.the-variants.{Opcode, Short, Version, Header, Length, File, Spare, Register, Start}
+use Rattle.reasons.specs.declared.Check.{Check}
+use Rattle.chip.specs.declared.Word.{Word}
+use Rattle.sheet.specs.declared.Which.{Which}
+use Rattle.sheet.specs.declared.Which.the-variants.{Main, Handler}
+use Rattle.sheet.specs.declared.Given.{Given}
+use Rattle.sheet.specs.declared.Given.the-variants.{Absent, Number}
+use Rattle.packing.specs.Packing.{number6, fieldsOf, spareOf, lacksPage, some, named, differ, InRange}
+
+-- ---- the header: four bytes as one number of 32 bits
+abbrev pub number4 : List ℕ → ℕ
+number4 s = getD s 0 0 * 2 ^ 24 + getD s 1 0 * 2 ^ 16 + getD s 2 0 * 2 ^ 8 + getD s 3 0
+
+-- version 4, word count 12, register count 7, zero 9
+abbrev pub versionOf : ℕ → ℕ
+versionOf h = h / 2 ^ 28
+
+abbrev pub countOf : ℕ → ℕ
+countOf h = h / 2 ^ 16 % 4096
+
+abbrev pub registersOf : ℕ → ℕ
+registersOf h = h / 2 ^ 9 % 128
+
+abbrev pub zerosOf : ℕ → ℕ
+zerosOf h = h % 512
+
+-- of a whole sheet: its words, and the registers that it declares
+unfoldable pub wordsOf : List ℕ → ℕ
+wordsOf s = countOf (number4 s)
+
+unfoldable pub declaredOf : List ℕ → ℕ
+declaredOf s = registersOf (number4 s)
+
+-- ---- the words: six bytes each, after the header
+abbrev pub partOf : List ℕ → ℕ → List ℕ
+partOf s k = take 6 (drop (4 + 6 * k) s)
+
+unfoldable pub numberAt : List ℕ → ℕ → ℕ
+numberAt s k = number6 (partOf s k)
+
+abbrev pub wordAt : List ℕ → ℕ → Word
+wordAt s k = fieldsOf (numberAt s k)
+
+-- one of two sheets
+abbrev pub sheetOf : Which → List ℕ → List ℕ → List ℕ
+sheetOf Main m h = m
+sheetOf Handler m h = h
+
+-- ---- conditions of the reasons
+-- Header: zero bits set, or register count 0 or above 64
+abbrev pub badHeader : ℕ → Bool
+badHeader h = differ (zerosOf h) 0 || eqb (registersOf h) 0 || ltb 64 (registersOf h)
+
+-- File: fewer registers lent than declared; a call that lends no file skips it
+abbrev pub fewer : Given → ℕ → Bool
+fewer Absent n = false
+fewer (Number lent) n = ltb lent n
+
+-- Start: start word above the count; a call that takes no start skips it
+abbrev pub above : Given → ℕ → Bool
+above Absent n = false
+above (Number start) n = ltb n start
+
+-- ---- the table
+-- word k, whose number is v, of a sheet of n registers: 8, 1, 9
+abbrev pub numberRows : ℕ → ℕ → ℕ → List Row
+numberRows v n k =
+    (differ (spareOf v) 0 gives Spare at k)
+    ∷ (lacksPage (fieldsOf v .opcode) gives Opcode at k)
+    ∷ (some (leb n) (named (fieldsOf v)) gives Register at k)
+    ∷ []
+
+unfoldable pub wordRows : List ℕ → ℕ → ℕ → List Row
+wordRows s n k = numberRows (numberAt s k) n k
+
+-- a sheet of len bytes whose header is h: 4, 5, 6, 7
+abbrev pub headRows : ℕ → ℕ → Given → List Row
+headRows len h file =
+    (differ (versionOf h) 1 gives Version at 0)
+    ∷ (badHeader h gives Header at 0)
+    ∷ (differ len (4 + 6 * countOf h) gives Length at 0)
+    ∷ (fewer file (registersOf h) gives File at 0)
+    ∷ []
+
+-- 3 to 7, then words in order, in each 8, 1, 9; then 10
+unfoldable pub sheetRows : List ℕ → Given → Given → List Row
+sheetRows s file start =
+    (ltb (length s) 4 gives Short at 0)
+    ∷ (headRows (length s) (number4 s) file
+    ++ (rowsBy (wordRows s (declaredOf s)) 0 (wordsOf s)
+    ++ ((above start (wordsOf s) gives Start at 0) ∷ [])))
+
+unfoldable pub checkOf : List ℕ → Given → Given → Check
+checkOf s file start = firstOf (sheetRows s file start)
+
+-- ---- what a sheet that passed has
+-- a word that can be run on n registers
+pub record WordReady (n : ℕ) (w : Word) : Type 0 where
+  pub page : lacksPage (w .opcode) ≡ false
+  pub range : InRange w
+  pub a : w .a < n
+  pub b : w .b < n
+  pub y : w .y < n
+
+-- a sheet that can be run on a file of n registers
+pub record Ready (s : List ℕ) (n : ℕ) : Type 0 where
+  pub long : 4 ≤ length s
+  pub whole : length s ≡ 4 + 6 * wordsOf s
+  pub some : 0 < declaredOf s
+  pub few : declaredOf s ≤ 64
+  pub file : declaredOf s ≤ n
+  pub word : (k : ℕ) → k < wordsOf s → WordReady (declaredOf s) (wordAt s k)

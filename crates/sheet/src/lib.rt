@@ -1,0 +1,250 @@
+// Sheets: the header, the words, and the reasons for which a sheet is refused.
+use reasons::Check;
+use reasons::Reason;
+ghost use mathlib.Core.Path.{_≡_};
+ghost use Prim.Native.Nat.{_+_, _*_, _^_, _≤_};
+ghost use lib.ListN.{length};
+ghost use Rattle.reasons.specs.Reasons.{firstOf, rowsBy};
+ghost use Rattle.sheet.specs.Sheet.{number4, countOf, registersOf, wordsOf, declaredOf, partOf, sheetOf, badHeader, fewer, above, numberRows, wordRows, headRows, checkOf};
+
+// Which of two lent sheets a word comes from.
+pub enum Which {
+    Main,
+    Handler,
+}
+
+// A number that a call may hand in beside a sheet: the registers lent, the start word.
+pub enum Given {
+    Absent,
+    Number(usize),
+}
+
+// ---- the header and the words
+
+// Four bytes as one number, the first highest.
+fn joined_header(b0: u8, b1: u8, b2: u8, b3: u8) -> u32
+    ensures { λ r. ⌜ r ≡ b0 * 2 ^ 24 + b1 * 2 ^ 16 + b2 * 2 ^ 8 + b3 ⌝ }
+{
+    b0 as u32 * 0x100_0000 + b1 as u32 * 0x1_0000 + b2 as u32 * 0x100 + b3 as u32
+}
+
+// The header as one number.
+fn header(s: &[u8]) -> u32
+    requires { ⌜ 4 ≤ length (now s) ⌝ }
+    ensures { λ r. ⌜ r ≡ number4 (now (s .entry)) ⌝ }
+{
+    joined_header(s[0], s[1], s[2], s[3])
+}
+
+// The word count of a header.
+fn count(h: u32) -> usize
+    ensures { λ r. ⌜ r ≡ countOf h ⌝ }
+{
+    ((h >> 16) % 4096) as usize
+}
+
+// Its register count.
+fn registers(h: u32) -> u32
+    ensures { λ r. ⌜ r ≡ registersOf h ⌝ }
+{
+    (h >> 9) % 128
+}
+
+// How many words a sheet has. Public for the crates above, which have checked the sheet.
+pub fn words(s: &[u8]) -> usize
+    requires { ⌜ 4 ≤ length (now s) ⌝ }
+    ensures { λ r. ⌜ r ≡ wordsOf (now (s .entry)) ⌝ }
+{
+    count(header(s))
+}
+
+// How many registers it declares. Public for the crates above, which have checked the sheet.
+pub fn declared(s: &[u8]) -> usize
+    requires { ⌜ 4 ≤ length (now s) ⌝ }
+    ensures { λ r. ⌜ r ≡ declaredOf (now (s .entry)) ⌝ }
+{
+    registers(header(s)) as usize
+}
+
+// The six bytes of word `index` of a sheet.
+fn part(s: &[u8], index: usize) -> &[u8]
+    requires { ⌜ 4 + 6 * index + 6 ≤ length (now s) ⌝ }
+    ensures { λ r. ⌜ now r ≡ partOf (now (s .entry)) index ⌝ }
+{
+    let from = 4 + 6 * index;
+    let to = from + 6;
+    &s[from..to]
+}
+
+// The six bytes of a word of one of two sheets, the main list's or the handler's: the only way a run gets a word. Public for the crates
+// above, which have checked both sheets.
+pub fn fetch<'a>(main: &'a [u8], handler: &'a [u8], from: Which, index: usize) -> &'a [u8]
+    requires { ⌜ 4 + 6 * index + 6 ≤ length (sheetOf from (now main) (now handler)) ⌝ }
+    ensures { λ r. ⌜ now r ≡ partOf (sheetOf from (now (main .entry)) (now (handler .entry))) index ⌝ }
+{
+    match from {
+        Which::Main => part(main, index),
+        Which::Handler => part(handler, index),
+    }
+}
+
+// ---- its reasons
+
+// Whether zero bits of the header are set, or its register count is 0 or above 64.
+fn bad_header(h: u32) -> bool
+    ensures { λ r. ⌜ r ≡ badHeader h ⌝ }
+{
+    let n = registers(h);
+    (h % 512 != 0) | (n == 0) | (64 < n)
+}
+
+// Whether a file is lent and has fewer than n registers.
+fn lends_fewer(file: Given, n: usize) -> bool
+    ensures { λ r. ⌜ r ≡ fewer file n ⌝ }
+{
+    match file {
+        Given::Absent => false,
+        Given::Number(lent) => lent < n,
+    }
+}
+
+// Whether a start word is given and lies above n.
+fn starts_above(start: Given, n: usize) -> bool
+    ensures { λ r. ⌜ r ≡ above start n ⌝ }
+{
+    match start {
+        Given::Absent => false,
+        Given::Number(word) => n < word,
+    }
+}
+
+// Reasons 4 to 7 of a sheet of `len` bytes whose header is h.
+fn check_header(len: usize, h: u32, file: Given) -> Check
+    ensures { λ r. ⌜ r ≡ firstOf (headRows len h file) ⌝ }
+{
+    if h >> 28 != 1 {
+        return Check::Bad {
+            reason: Reason::Version,
+            place: 0,
+        };
+    }
+    if bad_header(h) {
+        return Check::Bad {
+            reason: Reason::Header,
+            place: 0,
+        };
+    }
+    if len != 4 + 6 * count(h) {
+        return Check::Bad {
+            reason: Reason::Length,
+            place: 0,
+        };
+    }
+    if lends_fewer(file, registers(h) as usize) {
+        return Check::Bad {
+            reason: Reason::File,
+            place: 0,
+        };
+    }
+    Check::Good
+}
+
+// Reasons 8, 1 and 9 of word k, whose number is v, in a sheet of n registers.
+fn check_number(v: u64, n: u32, k: usize) -> Check
+    ensures { λ r. ⌜ r ≡ firstOf (numberRows v n k) ⌝ }
+{
+    if v % 32 != 0 {
+        return Check::Bad {
+            reason: Reason::Spare,
+            place: k,
+        };
+    }
+    let w = packing::fields(v);
+    if packing::lacks_page(w.opcode) {
+        return Check::Bad {
+            reason: Reason::Opcode,
+            place: k,
+        };
+    }
+    if packing::names_from(n, w) {
+        return Check::Bad {
+            reason: Reason::Register,
+            place: k,
+        };
+    }
+    Check::Good
+}
+
+// The same from the sheet's bytes.
+fn check_word(s: &[u8], n: u32, k: usize) -> Check
+    requires { ⌜ 4 + 6 * k + 6 ≤ length (now s) ⌝ }
+    ensures { λ r. ⌜ r ≡ firstOf (wordRows (now (s .entry)) n k) ⌝ }
+{
+    check_number(packing::word_number(part(s, k)), n, k)
+}
+
+// The words in order: the first fault of the first word that has one.
+fn check_words(s: &[u8], count: usize, n: u32) -> Check
+    requires { ⌜ 4 + 6 * count ≤ length (now s) ⌝ }
+    ensures { λ r. ⌜ r ≡ firstOf (rowsBy (wordRows (now (s .entry)) n) 0 count) ⌝ }
+{
+    let mut k: usize = 0;
+    while k < count {
+        let c = check_word(s, n, k);
+        if let Check::Bad { reason, place } = c {
+            return Check::Bad { reason, place };
+        }
+        k += 1;
+    }
+    Check::Good
+}
+
+// The whole table: 3 to 7, then the words, then 10.
+fn check(s: &[u8], file: Given, start: Given) -> Check
+    ensures { λ r. ⌜ r ≡ checkOf (now (s .entry)) file start ⌝ }
+{
+    if s.len() < 4 {
+        return Check::Bad {
+            reason: Reason::Short,
+            place: 0,
+        };
+    }
+    let h = header(s);
+    let head = check_header(s.len(), h, file);
+    if let Check::Bad { reason, place } = head {
+        return Check::Bad { reason, place };
+    }
+    let last = count(h);
+    let body = check_words(s, last, registers(h));
+    if let Check::Bad { reason, place } = body {
+        return Check::Bad { reason, place };
+    }
+    if starts_above(start, last) {
+        return Check::Bad {
+            reason: Reason::Start,
+            place: 0,
+        };
+    }
+    Check::Good
+}
+
+// A sheet on its own: no file is lent and no start word given, so 7 and 10 are skipped.
+pub fn check_sheet(s: &[u8]) -> Check
+    ensures { λ r. ⌜ r ≡ checkOf (now (s .entry)) Given.Absent Given.Absent ⌝ }
+{
+    check(s, Given::Absent, Given::Absent)
+}
+
+// A sheet with a file of `lent` registers, and no start word.
+pub fn check_on_file(s: &[u8], lent: usize) -> Check
+    ensures { λ r. ⌜ r ≡ checkOf (now (s .entry)) (Given.Number lent) Given.Absent ⌝ }
+{
+    check(s, Given::Number(lent), Given::Absent)
+}
+
+// A sheet with a file of `lent` registers, started at word `start`.
+pub fn check_start(s: &[u8], lent: usize, start: usize) -> Check
+    ensures { λ r. ⌜ r ≡ checkOf (now (s .entry)) (Given.Number lent) (Given.Number start) ⌝ }
+{
+    check(s, Given::Number(lent), Given::Number(start))
+}
