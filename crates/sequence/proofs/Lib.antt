@@ -7,3 +7,4 @@ pub mod DecimalNumbers
 pub mod DecimalWords
 pub mod Decimal
 pub mod AppendixA
+pub mod OnSheets

@@ -2,3 +2,4 @@ pub mod Sequences
 pub mod Results
 pub mod Decimal
 pub mod AppendixA
+pub mod OnSheets
