@@ -1,7 +1,7 @@
 -- Laws of a step and of the words one after another. Assumes nothing.
 use mathlib.Core.Path.{_≡_, refl, ap, sym, subst, _∙_}
 use mathlib.Core.List.{List, [], _∷_, _++_}
-use Prim.Native.Nat.{ℕ, zero, suc, _+_, _*_, _-_, _^_, _≤_, _<_}
+use Prim.Native.Nat.{ℕ, zero, suc, _+_, _-_, _^_, _≤_, _<_}
 use native.Mathlib.Omega.{arith}
 use native.Mathlib.Decide.{ℕ-discrete, decLt}
 use lib.ListN.{length, getD, set, length-set}
@@ -13,7 +13,6 @@ use Rattle.machine.specs.declared.Outputs.{Outputs}
 use Rattle.machine.specs.Status.{asRead, loaded, Good}
 use Rattle.machine.specs.Inputs.{Sound, Kept}
 use Rattle.chip.specs.declared.Word.{Word}
-use Rattle.chip.specs.Glossary.{performOf}
 use Rattle.chip.specs.Lists.{State, readAt, storeAt, inputsOf, written, stepOf, execs}
 use Rattle.chip.proofs.Kept.{perform-kept}
 use Rattle.sheet.specs.Sheet.{wordsOf, declaredOf, wordAt, WordReady, Ready}

@@ -1,13 +1,12 @@
 -- The two ways in which a run ends; running in parts equals running at once; and a run has one outcome. Assumes nothing.
-use mathlib.Core.Path.{_≡_, refl, ap, ap₂, sym, subst, _∙_}
+use mathlib.Core.Path.{_≡_, ap, ap₂, sym, _∙_}
 use mathlib.Core.List.{List, [], _∷_, _++_}
 use Prim.Native.Nat.{ℕ, _+_, _-_, _^_, _≤_, _<_, min}
 use native.Mathlib.Omega.{arith}
 use borrow.Author.Tests.{le-ltb}
 use lib.ListN.{length}
-use Rattle.machine.specs.declared.Status.{Status}
 use Rattle.machine.specs.declared.Machine.{Machine}
-use Rattle.machine.specs.Status.{asRead, loaded, Good}
+use Rattle.machine.specs.Status.{asRead, Good}
 use Rattle.machine.proofs.Round.{loaded-read, loaded-good}
 use Rattle.reasons.specs.declared.Reason.{Reason}
 use Rattle.reasons.specs.declared.Reason.the-variants.{Done}
@@ -22,9 +21,8 @@ use Rattle.sheet.specs.declared.Given.{Given}
 use Rattle.sheet.specs.declared.Given.the-variants.{Number}
 use Rattle.sheet.proofs.Table.{body, tail, ready, start-within}
 use Rattle.run.specs.declared.Going.{Going}
-use Rattle.run.specs.declared.RunAnswer.{RunAnswer}
 use Rattle.run.specs.Run.{state, stateOf, outputsOf, entering, handedBack, goingFrom, Sane, wordsFrom, wordsRun, Ended, ended, ran, unless, runOf, Went, Shown, shown, tracedOf}
-use Rattle.run.proofs.Laws.{Each, each-word, execs-size, execs-sane, words-length, in-parts}
+use Rattle.run.proofs.Laws.{each-word, execs-size, execs-sane, words-length, in-parts}
 
 -- ---- the two ways in which a run ends
 module _ (s file : List ℕ) (m : Machine) (start allowance : ℕ) where

@@ -8,7 +8,6 @@ use Rattle.machine.specs.declared.Status.{Status}
 use Rattle.machine.specs.declared.Machine.{Machine}
 use Rattle.machine.specs.declared.Outputs.{Outputs}
 use Rattle.machine.specs.Status.{asRead, loaded, Good}
-use Rattle.reasons.specs.declared.Reason.{Reason}
 use Rattle.reasons.specs.declared.Reason.the-variants.{Done}
 use Rattle.reasons.specs.declared.Check.{Check}
 use Rattle.reasons.specs.declared.Check.the-variants.{Good as Passed, Bad}

@@ -3,7 +3,6 @@ use mathlib.Core.Path.{refl, sym, subst}
 use Prim.Native.Nat.{_-_}
 use native.Mathlib.Omega.{arith}
 use denote.Ref.{now}
-use lib.ListN.{length}
 use Rattle.sheet.specs.Sheet.{sheetOf, Ready}
 use Rattle.run.proofs.Laws.{Running, went-none, running-count, running-more, running-done}
 use Rattle.run.proofs.span.Statement.{statement}

@@ -1,6 +1,6 @@
 -- The inputs are those of the definition, and the two arms its two ways: Y stored, or not. Assumes nothing.
 use Rattle.chip.specs.Lists.{readAt}
-use Rattle.run.specs.Run.{Sane, state}
+use Rattle.run.specs.Run.{state}
 use Rattle.run.proofs.Laws.{step-write, step-keep}
 use borrow.Author.Needs.{needs}
 use Rattle.run.proofs.step.Statement.{statement}

@@ -1,8 +1,7 @@
 -- One step from the status as it was handed in, and its status read. Assumes nothing.
-use mathlib.Core.Path.{sym, ap, subst, _∙_}
+use mathlib.Core.Path.{sym, subst}
 use denote.Ref.{now}
 use lib.ListN.{length}
-use Rattle.machine.specs.declared.Status.{Status}
 use Rattle.machine.specs.Status.{Good}
 use Rattle.machine.proofs.Round.{loaded-good}
 use Rattle.run.proofs.Laws.{word-ready, shown-step}

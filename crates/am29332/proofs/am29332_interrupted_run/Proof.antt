@@ -1,0 +1,22 @@
+-- What the interrupted run leaves, its reason and place as numbers. Assumes nothing.
+use mathlib.Core.Path.{ap}
+use Rattle.am29332.specs.Numbers.{interruptedNumbers}
+use borrow.Author.Needs.{needs}
+use Rattle.am29332.proofs.am29332_interrupted_run.Statement.{statement}
+use Rattle.am29332.proofs.am29332_interrupted_run.Tie as tie
+
+interrupted-requires : tie.Need-interrupted-requires
+interrupted-requires c κs = search needs
+
+numbered-requires : tie.Need-numbered-requires
+numbered-requires c κs = search needs
+
+same-length : tie.Need-same-length
+same-length c = search needs
+
+returns : tie.Need-returns
+returns c = rw (c .numbered .ensures) (ap interruptedNumbers (c .before .before .before .before .interrupted .ensures))
+
+pub am29332-interrupted-run-spec : {M : Type 1} → statement M
+am29332-interrupted-run-spec =
+    tie.close (tie.spec interrupted-requires numbered-requires same-length returns)

@@ -1,0 +1,13 @@
+-- The number is document 01's. Assumes nothing.
+use borrow.Author.Needs.{needs}
+use Rattle.am29332.proofs.numbered.Statement.{statement}
+use Rattle.am29332.proofs.numbered.Tie as tie
+
+number-requires : tie.Need-number-requires
+number-requires c κs = search needs
+
+returns : tie.Need-returns
+returns c = rw (c .number .ensures)
+
+pub numbered-spec : {M : Type 1} → statement M
+numbered-spec = tie.close (tie.spec number-requires returns)

@@ -1,0 +1,180 @@
+// The C interface: numbers, slices and plain structs only, for hosts in C and Rust (include/am29332.h). A slice is a pointer and a length
+// on the other side. Each function hands its values on to the entry point of the crate that does the work, and its answer back in numbers.
+use chip::SingleWord;
+use chip::Word;
+use machine::Machine;
+use reasons::Check;
+use reasons::Reason;
+ghost use mathlib.Core.Path.{_≡_};
+ghost use Rattle.machine.specs.Status.{freshOf};
+ghost use Rattle.chip.specs.Single.{singleOf};
+ghost use Rattle.packing.specs.Packing.{packOf, unpackOf};
+ghost use Rattle.sheet.specs.Sheet.{checkOf};
+ghost use Rattle.sheet.specs.declared.Given.the-variants.{Absent};
+ghost use Rattle.handler.specs.Form.{handlerOf};
+ghost use Rattle.run.specs.Run.{runOf};
+ghost use Rattle.interrupt.specs.Interrupt.{interruptedOf};
+ghost use Rattle.am29332.specs.Numbers.{outcomeOf, checkNumbers, singleNumbers, packNumbers, unpackNumbers, runNumbers, interruptedNumbers, leaves};
+
+// Document 01's number of the reason, and the place: the words run where the reason is 0 and a sheet ran, else where the fault is.
+#[repr(C)]
+pub struct Outcome {
+    pub reason: u32,
+    pub place: u64,
+}
+
+// What a single word answers. The parity has a bit for each byte of Y, the highest byte's in bit 3.
+#[repr(C)]
+pub struct Answer {
+    pub outcome: Outcome,
+    pub y: u32,
+    pub parity: u32,
+    pub q: u32,
+    pub status: u32,
+}
+
+// What unpacking answers.
+#[repr(C)]
+pub struct Unpacked {
+    pub outcome: Outcome,
+    pub word: Word,
+}
+
+// What a run answers: Q and status are those to go on from.
+#[repr(C)]
+pub struct Ran {
+    pub outcome: Outcome,
+    pub machine: Machine,
+}
+
+// What an interrupted run answers. The mark says which sheet the fault is in: 0 neither, 1 main, 2 handler.
+#[repr(C)]
+pub struct Interrupted {
+    pub outcome: Outcome,
+    pub machine: Machine,
+    pub mark: u32,
+}
+
+// A reason and its place as numbers.
+fn numbered(reason: Reason, place: usize) -> Outcome
+    ensures { λ r. ⌜ r ≡ outcomeOf reason place ⌝ }
+{
+    Outcome {
+        reason: reasons::number(reason),
+        place: place as u64,
+    }
+}
+
+// What a check answers, as numbers: 0 and 0 where there is nothing to refuse.
+fn numbered_check(check: Check) -> Outcome
+    ensures { λ r. ⌜ r ≡ checkNumbers check ⌝ }
+{
+    match check {
+        Check::Good => numbered(Reason::Done, 0),
+        Check::Bad { reason, place } => numbered(reason, place),
+    }
+}
+
+// A fresh machine.
+#[no_mangle]
+pub extern "C" fn am29332_fresh() -> Machine
+    ensures { λ r. ⌜ r ≡ freshOf ⌝ }
+{
+    Machine::fresh()
+}
+
+// One word on what stands at the chip.
+#[no_mangle]
+pub extern "C" fn am29332_single_word(inputs: SingleWord) -> Answer
+    ensures { λ r. ⌜ r ≡ singleNumbers (singleOf inputs) ⌝ }
+{
+    let answer = chip::single_word(inputs);
+    let reason = answer.reason;
+    Answer {
+        outcome: numbered(reason, answer.place),
+        y: answer.y,
+        parity: answer.parity,
+        q: answer.q,
+        status: answer.status,
+    }
+}
+
+// A word into the first six bytes.
+#[no_mangle]
+pub extern "C" fn am29332_pack(word: Word, bytes: &mut [u8]) -> Outcome
+    ensures { λ r. ⌜ leaves r (now (bytes .exit)) ≡ packNumbers (packOf word (now (bytes .entry))) ⌝ }
+{
+    numbered_check(packing::pack(word, bytes))
+}
+
+// The word in the first six bytes.
+#[no_mangle]
+pub extern "C" fn am29332_unpack(bytes: &[u8]) -> Unpacked
+    ensures { λ r. ⌜ r ≡ unpackNumbers (unpackOf (now (bytes .entry))) ⌝ }
+{
+    let answer = packing::unpack(bytes);
+    let check = answer.check;
+    let word = answer.word;
+    Unpacked {
+        outcome: numbered_check(check),
+        word,
+    }
+}
+
+// A sheet on its own: no file is lent and no start word given.
+#[no_mangle]
+pub extern "C" fn am29332_check_sheet(sheet: &[u8]) -> Outcome
+    ensures { λ r. ⌜ r ≡ checkNumbers (checkOf (now (sheet .entry)) Absent Absent) ⌝ }
+{
+    numbered_check(sheet::check_sheet(sheet))
+}
+
+// A sheet handed in as a handler, on its own.
+#[no_mangle]
+pub extern "C" fn am29332_check_handler(sheet: &[u8]) -> Outcome
+    ensures { λ r. ⌜ r ≡ checkNumbers (handlerOf (now (sheet .entry))) ⌝ }
+{
+    numbered_check(handler::check_handler(sheet))
+}
+
+// A sheet from word `start` on, at most `allowance` words.
+#[no_mangle]
+pub extern "C" fn am29332_run(
+    sheet: &[u8],
+    file: &mut [u32],
+    machine: Machine,
+    start: u64,
+    allowance: u64,
+) -> Ran
+    ensures { λ r. ⌜ leaves r (now (file .exit)) ≡ runNumbers (runOf (now (sheet .entry)) (now (file .entry)) machine start allowance) ⌝ }
+{
+    let answer = run::run(sheet, file, machine, start as usize, allowance as usize);
+    let reason = answer.reason;
+    let after = answer.machine;
+    Ran {
+        outcome: numbered(reason, answer.place),
+        machine: after,
+    }
+}
+
+// A main sheet from word 0 to its end, with the whole handler let in at each boundary of the schedule.
+#[no_mangle]
+pub extern "C" fn am29332_interrupted_run<'a>(
+    main: &'a [u8],
+    handler: &'a [u8],
+    schedule: &[u16],
+    file: &mut [u32],
+    machine: Machine,
+) -> Interrupted
+    ensures { λ r. ⌜ leaves r (now (file .exit))
+        ≡ interruptedNumbers (interruptedOf (now (main .entry)) (now (handler .entry)) (now (schedule .entry)) (now (file .entry)) machine) ⌝ }
+{
+    let answer = interrupt::interrupted(main, handler, schedule, file, machine);
+    let reason = answer.reason;
+    let after = answer.machine;
+    Interrupted {
+        outcome: numbered(reason, answer.place),
+        machine: after,
+        mark: answer.mark,
+    }
+}

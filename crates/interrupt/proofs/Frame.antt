@@ -1,0 +1,95 @@
+-- What a step reads and writes: two states that agree on the registers that words name, and on Q and status, agree after them; and a register
+-- that no word names stays. Assumes nothing.
+use mathlib.Core.Path.{_≡_, refl, sym, ap, _∙_, subst}
+use mathlib.Core.List.{List, [], _∷_}
+use Prim.Native.Nat.{ℕ, zero, suc, _<_}
+use lib.ListN.{length}
+use Rattle.bits.specs.Bits.{choose}
+use Rattle.machine.specs.declared.Outputs.{Outputs}
+use Rattle.chip.specs.declared.Word.{Word}
+use Rattle.chip.specs.Lists.{State, readAt, storeAt, written, stepOf, execs}
+use Rattle.chip.proofs.Facts.{read-same, read-other, store-agree}
+use Rattle.run.specs.Run.{Sane, outputsOf}
+use Rattle.run.proofs.Laws.{step-sane, step-size}
+use Rattle.interrupt.specs.Owners.{All, Names, Same}
+use Rattle.interrupt.specs.Owners.All.{none, more}
+
+-- ---- one word
+-- a register that is not Y stays
+pub step-other : (w : Word) (t : State) (r : ℕ) → (r ≡ w .y → ⊥) → readAt (stepOf w t .file) r ≡ readAt (t .file) r
+unfolding stepOf
+step-other w t r h = go (w .write)
+  where
+    go : (k : ℕ) → readAt (choose k (t .file) (storeAt (t .file) (w .y) (outputsOf w t .y))) r ≡ readAt (t .file) r
+    go zero = refl
+    go (suc k) = read-other (t .file) (w .y) (outputsOf w t .y) r h
+
+-- with no write all stay
+pub step-reads : (w : Word) (t : State) → w .write ≡ 0 → stepOf w t .file ≡ t .file
+unfolding stepOf
+step-reads w t h = rw h refl
+
+-- Y is stored
+pub step-stores : (w : Word) (t : State) → w .write ≡ 1 → w .y < length (t .file) → readAt (stepOf w t .file) (w .y) ≡ outputsOf w t .y
+unfolding stepOf
+step-stores w t h i = rw h (read-same (t .file) (w .y) (outputsOf w t .y) i)
+
+-- Q and the status after a step
+pub step-q : (w : Word) (t : State) → stepOf w t .q ≡ outputsOf w t .q
+unfolding stepOf
+step-q w t = refl
+
+pub step-status : (w : Word) (t : State) → stepOf w t .status ≡ outputsOf w t .status
+unfolding stepOf
+step-status w t = refl
+
+-- ---- two states that agree on what a word names
+outputs-same : (P : ℕ → Type 0) (w : Word) (t u : State) → Names P w → Same P t u → outputsOf w t ≡ outputsOf w u
+outputs-same P w t u n s =
+    let f : readAt (t .file) (w .a) ≡ readAt (u .file) (w .a) = s .agree .same (w .a) (n .a) in
+    let g : readAt (t .file) (w .b) ≡ readAt (u .file) (w .b) = s .agree .same (w .b) (n .b) in
+    let q : t .q ≡ u .q = s .q in
+    let d : t .status ≡ u .status = s .status in
+    rw (f, g, q, d) refl
+
+pub step-same : (P : ℕ → Type 0) (w : Word) (t u : State) → Names P w → Same P t u → Same P (stepOf w t) (stepOf w u)
+unfolding stepOf
+step-same P w t u n s =
+    let o : outputsOf w t ≡ outputsOf w u = outputs-same P w t u n s in
+    record {
+      agree = record {
+        size = sized t ∙ s .agree .size ∙ sym (sized u);
+        same = λ r p. kept (w .write) r (s .agree .same r p) o;
+      };
+      q = ap (λ (x : Outputs). x .q) o;
+      status = ap (λ (x : Outputs). x .status) o;
+    }
+  where
+    sized : (v : State) → length (written w (outputsOf w v .y) (v .file)) ≡ length (v .file)
+    sized v = step-size w v
+
+    kept : (k r : ℕ) → readAt (t .file) r ≡ readAt (u .file) r → outputsOf w t ≡ outputsOf w u
+        → readAt (choose k (t .file) (storeAt (t .file) (w .y) (outputsOf w t .y))) r ≡ readAt (choose k (u .file) (storeAt (u .file) (w .y) (outputsOf w u .y))) r
+    kept zero r e o = e
+    kept (suc k) r e o =
+        ap (λ (x : Outputs). readAt (storeAt (t .file) (w .y) (x .y)) r) o
+        ∙ store-agree (t .file) (u .file) (w .y) (outputsOf w u .y) r (s .agree .size) e
+
+-- ---- words one after another
+pub execs-same : (P : ℕ → Type 0) (ws : List Word) (t u : State) → All (Names P) ws → Same P t u → Same P (execs ws t) (execs ws u)
+unfolding execs
+execs-same P [] t u none s = s
+execs-same P (w ∷ ws) t u (more n a) s = execs-same P ws (stepOf w t) (stepOf w u) a (step-same P w t u n s)
+
+-- a register that no word names stays
+pub execs-other : (P : ℕ → Type 0) (ws : List Word) (t : State) (r : ℕ) → (P r → ⊥) → All (Names P) ws → readAt (execs ws t .file) r ≡ readAt (t .file) r
+unfolding execs
+execs-other P [] t r h none = refl
+execs-other P (w ∷ ws) t r h (more n a) =
+    execs-other P ws (stepOf w t) r h a ∙ step-other w t r (λ e. h (subst P (sym e) (n .y)))
+
+-- a state in range stays in range
+pub execs-kept : (P : ℕ → Type 0) (ws : List Word) (t : State) → All (Names P) ws → Sane t → Sane (execs ws t)
+unfolding execs
+execs-kept P [] t none s = s
+execs-kept P (w ∷ ws) t (more n a) s = execs-kept P ws (stepOf w t) a (step-sane 64 w t (n .ready) s)

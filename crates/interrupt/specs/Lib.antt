@@ -1,0 +1,4 @@
+pub mod Owners
+pub mod Serve
+pub mod Interrupt
+pub mod Demand3
