@@ -60,21 +60,15 @@ static struct end c_run_interrupted(
 }
 
 /*
- * >>> THE PROVED LIBRARY PLUGS IN HERE. <<<
- * proved.h, which does not exist yet, has two functions like the two above over
- * the library's C interface: proved_run and proved_run_interrupted. run.sh sets
- * BENCH_PROVED and links the archive as soon as the file is there.
+ * The proved library: proved.h has two functions like the two above over its C
+ * interface. run.sh links the archive.
  */
-#ifdef BENCH_PROVED
 #include "proved.h"
-#endif
 
 /* The first is what the others are measured against. */
 static const struct engine engines[] = {
     {"C model", c_run, c_run_interrupted},
-#ifdef BENCH_PROVED
     {"proved", proved_run, proved_run_interrupted},
-#endif
 };
 
 enum { ENGINES = sizeof engines / sizeof *engines };

@@ -2,8 +2,7 @@
 # Builds the benchmark at -O3 and runs it: bench/run.sh [REPEATS].
 # Works from any directory. CC may name the compiler.
 #
-# The proved library is x86-64 code. Once it takes part (proved.h and
-# target/staticlib/libam29332.a are there), or with TARGET=x86-64, a machine of
+# The proved library, target/staticlib/libam29332.a, is x86-64 code: a machine of
 # another kind builds both sides for x86-64 with the kit's compiler and runs
 # them in one process under the kit's emulator. Times are then those of the
 # emulator; the ratio is what to look at.
@@ -16,28 +15,21 @@ work=$(mktemp -d)
 trap 'rm -rf -- "$work"' EXIT
 trap 'exit 1' HUP INT TERM
 
-proved=
-target=${TARGET:-native}
-if [ -e "$here/proved.h" ]; then
-    [ -e "$archive" ] || { echo "first: rt staticlib am29332" >&2; exit 1; }
-    proved=-DBENCH_PROVED
-    target=x86-64
-fi
-[ "$target" != x86-64 ] || [ "$machine" != x86_64 ] || target=native
+[ -e "$archive" ] || { echo "first: rt staticlib am29332" >&2; exit 1; }
 
 # compile COMPILER WORDS..: the objects of the benchmark, in the work folder.
 compile() {
     for part in model sheets harness; do
-        "$@" -std=c11 -O3 -Wall -Wextra -Werror -fPIE ${proved:+"$proved"} \
+        "$@" -std=c11 -O3 -Wall -Wextra -Werror -fPIE \
             -c "$here/$part.c" -o "$work/$part.o"
     done
 }
 
-if [ "$target" = native ]; then
+if [ "$machine" = x86_64 ]; then
     compiler=${CC:-$(command -v cc || command -v gcc)}
     echo "$machine, $("$compiler" --version | head -n 1)"
     compile "$compiler"
-    "$compiler" -o "$work/harness" "$work"/*.o ${proved:+"$archive"}
+    "$compiler" -o "$work/harness" "$work"/*.o "$archive"
     "$work/harness" "$@"
 else
     kit=$(dirname -- "$(dirname -- "$(readlink -f "$(command -v rt)")")")
@@ -50,7 +42,7 @@ else
     lib=$chain/lib
     "$chain/bin/ld.lld" -pie -dynamic-linker /lib64/ld-linux-x86-64.so.2 \
         -o "$work/harness" "$lib/Scrt1.o" "$lib/crti.o" "$lib/crtbeginS.o" \
-        "$work"/*.o ${proved:+"$archive"} "$lib/libc.so.6" \
+        "$work"/*.o "$archive" "$lib/libc.so.6" \
         "$lib/libc_nonshared.a" "$lib/libgcc.a" "$lib/crtendS.o" "$lib/crtn.o"
     "$chain/bin/qemu-x86_64" "$lib/ld-linux-x86-64.so.2" --library-path "$lib" \
         "$work/harness" "$@"

@@ -12,6 +12,7 @@ ghost use Rattle.chip.specs.Glossary.{performOf};
 ghost use Rattle.chip.specs.Single.{outOfRange, refusedAs, singleInputs, performed, singleOf};
 
 // The fields of one word of a sheet.
+#[repr(C)]
 pub struct Word {
     pub opcode: u32,
     pub code: u32,
@@ -29,6 +30,7 @@ pub struct Word {
 
 // A single word, with any values: its opcode and byte code, position and width, macro select, carry and link, borrow; the A and B
 // inputs; Q and the status register.
+#[repr(C)]
 pub struct SingleWord {
     pub opcode: u32,
     pub code: u32,

@@ -19,6 +19,7 @@ pub struct Status {
 }
 
 // Q and the status register as a caller holds them between runs: two words.
+#[repr(C)]
 pub struct Machine {
     pub q: u32,
     pub status: u32,

@@ -1,0 +1,303 @@
+//! A safe wrapper over the proved Am29332 (include/am29332.h says what each function promises and
+//! refuses).
+//!
+//! The library is safe with any numbers. What a C caller could get wrong, pointers, lengths and
+//! areas that overlap, Rust's slices rule out: each `unsafe` below only takes a slice apart. A
+//! refusal becomes an `Err`, and then nothing that was lent has changed.
+
+/// The library's own functions.
+mod library {
+    use super::{Inputs, Machine, Word};
+
+    #[repr(C)]
+    #[derive(Clone, Copy)]
+    pub struct Outcome {
+        pub reason: u32,
+        pub place: u64,
+    }
+
+    #[repr(C)]
+    pub struct Answer {
+        pub outcome: Outcome,
+        pub y: u32,
+        pub parity: u32,
+        pub q: u32,
+        pub status: u32,
+    }
+
+    #[repr(C)]
+    pub struct Unpacked {
+        pub outcome: Outcome,
+        pub word: Word,
+    }
+
+    #[repr(C)]
+    pub struct Ran {
+        pub outcome: Outcome,
+        pub machine: Machine,
+    }
+
+    #[repr(C)]
+    pub struct Interrupted {
+        pub outcome: Outcome,
+        pub machine: Machine,
+        pub mark: u32,
+    }
+
+    extern "C" {
+        pub fn am29332_fresh() -> Machine;
+        pub fn am29332_single_word(inputs: Inputs) -> Answer;
+        pub fn am29332_pack(word: Word, bytes: *mut u8, length: usize) -> Outcome;
+        pub fn am29332_unpack(bytes: *const u8, length: usize) -> Unpacked;
+        pub fn am29332_check_sheet(sheet: *const u8, length: usize) -> Outcome;
+        pub fn am29332_check_handler(sheet: *const u8, length: usize) -> Outcome;
+        pub fn am29332_run(
+            sheet: *const u8,
+            length: usize,
+            file: *mut u32,
+            registers: usize,
+            machine: Machine,
+            start: u64,
+            allowance: u64,
+        ) -> Ran;
+        pub fn am29332_interrupted_run(
+            main: *const u8,
+            main_length: usize,
+            handler: *const u8,
+            handler_length: usize,
+            schedule: *const u16,
+            entries: usize,
+            file: *mut u32,
+            registers: usize,
+            machine: Machine,
+        ) -> Interrupted;
+    }
+}
+
+/// Q and the status register, as a caller holds them between runs.
+#[repr(C)]
+#[derive(Clone, Copy, Debug, PartialEq, Eq)]
+pub struct Machine {
+    pub q: u32,
+    pub status: u32,
+}
+
+/// The fields of a sheet's word, in the order in which they are packed.
+#[repr(C)]
+#[derive(Clone, Copy, Debug, Default, PartialEq, Eq)]
+pub struct Word {
+    pub opcode: u32,
+    pub code: u32,
+    pub position: u32,
+    pub width: u32,
+    pub a: u32,
+    pub b: u32,
+    pub y: u32,
+    pub write: u32,
+    pub select: u32,
+    pub carry: u32,
+    pub link: u32,
+    pub borrow: u32,
+}
+
+/// What stands at the chip for a single word: here a and b are values.
+#[repr(C)]
+#[derive(Clone, Copy, Debug, Default, PartialEq, Eq)]
+pub struct Inputs {
+    pub opcode: u32,
+    pub code: u32,
+    pub position: u32,
+    pub width: u32,
+    pub select: u32,
+    pub carry: u32,
+    pub link: u32,
+    pub borrow: u32,
+    pub a: u32,
+    pub b: u32,
+    pub q: u32,
+    pub status: u32,
+}
+
+/// What a single word gives. The parity has a bit for each byte of Y, the highest byte's in bit 3.
+#[derive(Clone, Copy, Debug, PartialEq, Eq)]
+pub struct Answer {
+    pub y: u32,
+    pub parity: u32,
+    pub machine: Machine,
+}
+
+/// Why a call is refused, with the numbers that document 01 gives the reasons.
+#[derive(Clone, Copy, Debug, PartialEq, Eq)]
+pub enum Reason {
+    Opcode = 1,
+    Inputs = 2,
+    Short = 3,
+    Version = 4,
+    Header = 5,
+    Length = 6,
+    File = 7,
+    Spare = 8,
+    Register = 9,
+    Start = 10,
+    Form = 11,
+    Overlap = 12,
+    Schedule = 13,
+    Room = 14,
+}
+
+/// Which sheet of an interrupted run the fault is in.
+#[derive(Clone, Copy, Debug, PartialEq, Eq)]
+pub enum Mark {
+    Neither = 0,
+    Main = 1,
+    Handler = 2,
+}
+
+/// A refusal: the reason, its place, and the sheet it lies in.
+#[derive(Clone, Copy, Debug, PartialEq, Eq)]
+pub struct Refusal {
+    pub reason: Reason,
+    pub place: u64,
+    pub mark: Mark,
+}
+
+const REASONS: [Reason; 14] = [
+    Reason::Opcode,
+    Reason::Inputs,
+    Reason::Short,
+    Reason::Version,
+    Reason::Header,
+    Reason::Length,
+    Reason::File,
+    Reason::Spare,
+    Reason::Register,
+    Reason::Start,
+    Reason::Form,
+    Reason::Overlap,
+    Reason::Schedule,
+    Reason::Room,
+];
+
+/// The place of an outcome that is not a refusal.
+fn done(outcome: library::Outcome, mark: u32) -> Result<u64, Refusal> {
+    let Some(index) = outcome.reason.checked_sub(1) else {
+        return Ok(outcome.place);
+    };
+    Err(Refusal {
+        reason: REASONS[index as usize],
+        place: outcome.place,
+        mark: [Mark::Neither, Mark::Main, Mark::Handler][mark as usize],
+    })
+}
+
+impl Machine {
+    /// Q and the status register at zero.
+    pub fn fresh() -> Machine {
+        // SAFETY: nothing is handed in.
+        unsafe { library::am29332_fresh() }
+    }
+}
+
+impl Inputs {
+    /// One word on values. Refuses Opcode, Inputs.
+    pub fn perform(self) -> Result<Answer, Refusal> {
+        // SAFETY: numbers only, and any are taken.
+        let answer = unsafe { library::am29332_single_word(self) };
+        done(answer.outcome, 0)?;
+        let machine = Machine {
+            q: answer.q,
+            status: answer.status,
+        };
+        Ok(Answer {
+            y: answer.y,
+            parity: answer.parity,
+            machine,
+        })
+    }
+}
+
+impl Word {
+    /// Packs into the first six bytes; the others stay. Refuses Opcode, Inputs, Room.
+    pub fn pack(self, bytes: &mut [u8]) -> Result<(), Refusal> {
+        // SAFETY: a slice's own pointer and length, lent to be changed.
+        let outcome = unsafe { library::am29332_pack(self, bytes.as_mut_ptr(), bytes.len()) };
+        done(outcome, 0).map(|_| ())
+    }
+
+    /// Unpacks the first six bytes. Refuses Room, Spare, Opcode.
+    pub fn unpack(bytes: &[u8]) -> Result<Word, Refusal> {
+        // SAFETY: a slice's own pointer and length.
+        let unpacked = unsafe { library::am29332_unpack(bytes.as_ptr(), bytes.len()) };
+        done(unpacked.outcome, 0).map(|_| unpacked.word)
+    }
+}
+
+/// Whether a sheet can run on as many registers as it declares. Refuses Short to Length, then
+/// Spare, Opcode, Register.
+pub fn check_sheet(sheet: &[u8]) -> Result<(), Refusal> {
+    // SAFETY: a slice's own pointer and length.
+    let outcome = unsafe { library::am29332_check_sheet(sheet.as_ptr(), sheet.len()) };
+    done(outcome, 0).map(|_| ())
+}
+
+/// Whether a sheet can be a handler. Refuses as `check_sheet` does, then Form.
+pub fn check_handler(sheet: &[u8]) -> Result<(), Refusal> {
+    // SAFETY: a slice's own pointer and length.
+    let outcome = unsafe { library::am29332_check_handler(sheet.as_ptr(), sheet.len()) };
+    done(outcome, 0).map(|_| ())
+}
+
+/// Runs a sheet from word `start`, at most `allowance` words, and gives the words run. Refuses as
+/// `check_sheet` does, with File after Length and Start at the end.
+pub fn run(
+    sheet: &[u8],
+    file: &mut [u32],
+    machine: &mut Machine,
+    start: u64,
+    allowance: u64,
+) -> Result<u64, Refusal> {
+    // SAFETY: slices' own pointers and lengths, of which `file` alone is lent to be changed, and
+    // overlaps no other.
+    let ran = unsafe {
+        library::am29332_run(
+            sheet.as_ptr(),
+            sheet.len(),
+            file.as_mut_ptr(),
+            file.len(),
+            *machine,
+            start,
+            allowance,
+        )
+    };
+    *machine = ran.machine;
+    done(ran.outcome, 0)
+}
+
+/// Runs the main sheet to its end with the handler let in at each boundary of the schedule, and
+/// gives the words run, main and handler together. Refuses what `run` does but Start, in the main
+/// sheet and then in the handler's; then Form, Overlap, Schedule.
+pub fn interrupted_run(
+    main: &[u8],
+    handler: &[u8],
+    schedule: &[u16],
+    file: &mut [u32],
+    machine: &mut Machine,
+) -> Result<u64, Refusal> {
+    // SAFETY: slices' own pointers and lengths, of which `file` alone is lent to be changed, and
+    // overlaps no other.
+    let end = unsafe {
+        library::am29332_interrupted_run(
+            main.as_ptr(),
+            main.len(),
+            handler.as_ptr(),
+            handler.len(),
+            schedule.as_ptr(),
+            schedule.len(),
+            file.as_mut_ptr(),
+            file.len(),
+            *machine,
+        )
+    };
+    *machine = end.machine;
+    done(end.outcome, end.mark)
+}

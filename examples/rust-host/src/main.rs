@@ -1,0 +1,252 @@
+//! A host for the proved Am29332 in Rust: runs a sheet, at once, in parts and interrupted, and
+//! prints what happened, as examples/c-host does.
+//!
+//!     rust-host FILE.sheet     the sheet, then its registers, 4 bytes each, high first
+mod am29332;
+
+use am29332::{check_handler, check_sheet, interrupted_run, run, Inputs, Machine, Refusal, Word};
+use std::process::exit;
+
+const HEADER_BYTES: usize = 4;
+const WORD_BYTES: usize = 6;
+const MOST_REGISTERS: usize = 64;
+const MOST_ENTRIES: usize = 1024;
+const HANDLER_REGISTERS: usize = 4;
+
+// Opcodes that the handler uses.
+const PASS_STAT: u32 = 0x04;
+const PASS_Q: u32 = 0x05;
+const LOADQ_A: u32 = 0x06;
+const INCR_A: u32 = 0x12;
+const LDSTAT_A: u32 = 0x1C;
+
+type File = [u32; MOST_REGISTERS];
+
+/// A sheet and the registers it starts with.
+struct Job {
+    sheet: Vec<u8>,
+    words: usize,
+    registers: usize,
+    file: File,
+}
+
+// ---- printing
+
+fn print_outcome(what: &str, outcome: Result<u64, Refusal>) {
+    match outcome {
+        Ok(place) => println!("{what}: 00 done, place {place}"),
+        Err(r) => println!(
+            "{what}: {:02} {:?}, place {}",
+            r.reason as u32, r.reason, r.place
+        ),
+    }
+}
+
+/// An outcome without words run: its place is 0.
+fn print_check(what: &str, outcome: Result<(), Refusal>) {
+    print_outcome(what, outcome.map(|()| 0));
+}
+
+fn yes(answer: bool) -> &'static str {
+    if answer {
+        "yes"
+    } else {
+        "no"
+    }
+}
+
+// ---- sheets
+
+/// A file of the trace program's form. What is wrong with it, the check says.
+fn read_job(bytes: Vec<u8>) -> Job {
+    let mut job = Job {
+        sheet: bytes,
+        words: 0,
+        registers: 0,
+        file: [0; MOST_REGISTERS],
+    };
+    let [b0, b1, b2, _, ..] = job.sheet[..] else {
+        return job;
+    };
+    job.words = usize::from(b0 % 16) * 256 + usize::from(b1);
+    job.registers = usize::from(b2 / 2);
+    let after = HEADER_BYTES + WORD_BYTES * job.words;
+    if job.registers > MOST_REGISTERS || job.sheet.len() != after + 4 * job.registers {
+        return job;
+    }
+    for (register, bytes) in job.file.iter_mut().zip(job.sheet[after..].chunks_exact(4)) {
+        *register = u32::from_be_bytes(bytes.try_into().expect("four bytes"));
+    }
+    job.sheet.truncate(after);
+    job
+}
+
+/// A handler that counts how often it is let in. Its registers are the four from `first` on, which
+/// no main sheet of `first` registers names: where it saves status and Q, its count, and a zero to
+/// start from. A field that a word does not use names a register all the same, so it names the
+/// count.
+fn make_handler(first: u32) -> Result<Vec<u8>, Refusal> {
+    let (s, q, count, zero) = (first, first + 1, first + 2, first + 3);
+    let words = [
+        (PASS_STAT, count, s, 1),
+        (PASS_Q, count, q, 1),
+        (LOADQ_A, zero, count, 0),
+        (LDSTAT_A, zero, count, 0),
+        (INCR_A, count, count, 1),
+        (LOADQ_A, q, count, 0),
+        (LDSTAT_A, s, count, 0),
+    ];
+    let registers = first as usize + HANDLER_REGISTERS;
+    let header = 1 << 28 | (words.len() as u32) << 16 | (registers as u32) << 9;
+    let mut sheet = header.to_be_bytes().to_vec();
+    for (opcode, a, y, write) in words {
+        let word = Word {
+            opcode,
+            a,
+            b: count,
+            y,
+            write,
+            ..Word::default()
+        };
+        let mut bytes = [0; WORD_BYTES];
+        word.pack(&mut bytes)?;
+        sheet.extend(bytes);
+    }
+    Ok(sheet)
+}
+
+// ---- runs
+
+/// The sheet to its end, from a fresh machine.
+fn run_at_once(job: &Job, file: &mut [u32]) -> Machine {
+    let mut machine = Machine::fresh();
+    let outcome = run(&job.sheet, file, &mut machine, 0, u64::MAX);
+    print_outcome("run", outcome);
+    println!("  Q {:08X}, status {:08X}", machine.q, machine.status);
+    for (index, register) in file.iter().enumerate() {
+        println!("  register {index}: {register:08X}");
+    }
+    machine
+}
+
+/// Half of it, and then the rest.
+fn run_in_parts(job: &Job, file: &mut [u32]) -> Machine {
+    let mut machine = Machine::fresh();
+    let first = run(&job.sheet, file, &mut machine, 0, job.words as u64 / 2);
+    let rest = run(&job.sheet, file, &mut machine, first.unwrap_or(0), u64::MAX);
+    print_outcome("first part", first);
+    print_outcome("second part", rest);
+    machine
+}
+
+/// With the handler let in where the schedule says.
+fn run_interrupted(job: &Job, handler: &[u8], schedule: &[u16], file: &mut File) -> Machine {
+    let mut machine = Machine::fresh();
+    let outcome = interrupted_run(&job.sheet, handler, schedule, file, &mut machine);
+    print_outcome("interrupted run", outcome);
+    println!(
+        "  mark {}",
+        outcome.map_or_else(|refusal| refusal.mark as u32, |_| 0)
+    );
+    machine
+}
+
+/// The plain run and the one in parts; the machine and file that they leave.
+fn undisturbed(job: &Job) -> (Machine, File) {
+    let (mut file, mut parts) = (job.file, job.file);
+    let at_once = run_at_once(job, &mut file[..job.registers]);
+    let in_parts = run_in_parts(job, &mut parts[..job.registers]);
+    println!(
+        "  the same as at once: {}",
+        yes(at_once == in_parts && file == parts)
+    );
+    (at_once, file)
+}
+
+/// The interrupted run, held to the undisturbed one; then one that is refused.
+fn disturbed(job: &Job, alone: Machine, file_alone: &File) -> Result<(), Refusal> {
+    let handler = make_handler(job.registers as u32)?;
+    print_check("check of the handler", check_handler(&handler));
+    let mut schedule: Vec<u16> = (0..=job.words as u16).take(MOST_ENTRIES).collect();
+    let mut file = job.file;
+    let machine = run_interrupted(job, &handler, &schedule, &mut file);
+    let mains = ..job.registers;
+    println!("  the handler counted {} times", file[job.registers + 2]);
+    println!(
+        "  the main sheet noticed nothing: {}",
+        yes(machine == alone && file[mains] == file_alone[mains])
+    );
+    *schedule.last_mut().expect("before the first word") = job.words as u16 + 1;
+    let mut file = job.file;
+    run_interrupted(job, &handler, &schedule, &mut file);
+    println!("  a register was changed: {}", yes(file != job.file));
+    Ok(())
+}
+
+/// A single word: example d of document 01, NOT-A on two bytes.
+fn single_word() {
+    let inputs = Inputs {
+        opcode: 0x08,
+        code: 2,
+        a: 0x12345678,
+        ..Inputs::default()
+    };
+    let answer = inputs.perform();
+    print_check(
+        "single word NOT-A, two bytes of 12345678",
+        answer.map(|_| ()),
+    );
+    if let Ok(a) = answer {
+        let status = a.machine.status;
+        println!(
+            "  Y {:08X}, parity {:X}, N {}, Z {}",
+            a.y,
+            a.parity,
+            status >> 17 & 1,
+            status >> 19 & 1
+        );
+    }
+}
+
+/// The first word of the sheet, field by field.
+fn first_word(job: &Job) {
+    let word = Word::unpack(&job.sheet[HEADER_BYTES..]);
+    print_check("first word", word.map(|_| ()));
+    if let Ok(w) = word {
+        println!(
+            "  opcode {:02X}, byte code {}, A {}, B {}, Y {}, write {}",
+            w.opcode, w.code, w.a, w.b, w.y, w.write
+        );
+    }
+}
+
+fn main() {
+    let arguments: Vec<String> = std::env::args().collect();
+    let [_, path] = &arguments[..] else {
+        eprintln!("usage: rust-host FILE.sheet");
+        exit(2);
+    };
+    single_word();
+    print_check("check of no bytes", check_sheet(&[]));
+    let bytes = std::fs::read(path).unwrap_or_else(|error| {
+        eprintln!("{path}: {error}");
+        exit(1);
+    });
+    let job = read_job(bytes);
+    let check = check_sheet(&job.sheet);
+    print_check("check of the sheet", check);
+    if check.is_err() {
+        exit(1);
+    }
+    println!("  {} words, {} registers", job.words, job.registers);
+    if job.words > 0 {
+        first_word(&job);
+    }
+    let (machine, file) = undisturbed(&job);
+    if job.registers + HANDLER_REGISTERS <= MOST_REGISTERS {
+        if let Err(refusal) = disturbed(&job, machine, &file) {
+            print_outcome("packing", Err(refusal));
+            exit(1);
+        }
+    }
+}
