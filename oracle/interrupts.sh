@@ -28,6 +28,8 @@ case ${1:-20000} in
     awk 'END { print NR " cases, 0 missed" }' ../crates/interrupts/stdin > ../crates/interrupts/stdout
     ;;
 *)
-    "$program" interrupts "${1:-20000}" | widen | ../tools/x86run.sh ../target/bin/interrupts
+    said=$("$program" interrupts "${1:-20000}" | widen | ../tools/x86run.sh ../target/bin/interrupts)
+    echo "$said"
+    [ "$said" = "${1:-20000} cases, 0 missed" ]
     ;;
 esac
