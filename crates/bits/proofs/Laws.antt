@@ -5,6 +5,7 @@ use native.Mathlib.Nat.{mod-add-mod, add-mod-right, mod-lt, mod-eq-of-lt, zero-m
 use native.Mathlib.Omega.{arith}
 use lib.Dec.{eqb, lit<}
 use lib.Arith.{lt-one}
+use borrow.Author.Tests.{ne-eqb}
 use lib.Pow.{pow-pos, pow-lt, pow-add, split, field, high, ones-split, ones-lt, shr-mod, shr-shr, shr-lt, shl-shr, mod-pow-add, mod-mod-pow}
 use lib.Bits.{bitAnd, bitOr, and-step, or-step, or-zero-r, and-mask, and-high, or-block, or-shifted, or-shifted-r}
 use lib.Count.{leadingZeros, leading-length, leading-unique}
@@ -67,6 +68,23 @@ shl-law k x h =
     let e : (32 - k) + k ≡ 32 = omega arith in
     subst (λ (m : ℕ). (x * 2 ^ k) % 2 ^ m ≡ x % 2 ^ (32 - k) * 2 ^ k) e
     (mod-pow-add (x * 2 ^ k) (32 - k) k ∙ ap₂ (λ (q r : ℕ). q % 2 ^ (32 - k) * 2 ^ k + r) (shl-shr x k) (mul-mod-left x (2 ^ k)) ∙ add-zero _)
+
+-- n bits moved to the top: the highest of them, and whether there is none
+pub top-sign : (n x : ℕ) → 1 ≤ n → n ≤ 32 → x % 2 ^ n * 2 ^ (32 - n) / 2 ^ 31 ≡ bitOf (n - 1) x
+top-sign n x h l =
+    let e : (32 - n) + (n - 1) ≡ 31 = omega arith in
+    let f : 1 + (n - 1) ≡ n = omega arith in
+    subst (λ (k : ℕ). x % 2 ^ n * 2 ^ (32 - n) / 2 ^ k ≡ bitOf (n - 1) x) e
+    (sym (shr-shr (x % 2 ^ n * 2 ^ (32 - n)) (32 - n) (n - 1))
+    ∙ ap (λ (q : ℕ). q / 2 ^ (n - 1)) (shl-shr (x % 2 ^ n) (32 - n))
+    ∙ subst (λ (k : ℕ). x % 2 ^ k / 2 ^ (n - 1) ≡ bitOf (n - 1) x) f (field x 1 (n - 1)))
+
+pub top-zero : (n x : ℕ) → eqb (x % 2 ^ n * 2 ^ (32 - n)) 0 ≡ eqb (x % 2 ^ n) 0
+top-zero n x = scaled (x % 2 ^ n) (2 ^ (32 - n)) (pow-pos (32 - n))
+  where
+    scaled : (y P : ℕ) → 0 < P → eqb (y * P) 0 ≡ eqb y 0
+    scaled zero P h = ap (λ (q : ℕ). eqb q 0) (zero-mul P)
+    scaled (suc y) P h = ne-eqb (suc y * P) 0 (λ (e : suc y * P ≡ 0). omega arith) ∙ sym (ne-eqb (suc y) 0 (λ (e : suc y ≡ 0). omega arith))
 
 pub rotate-law : (k x : ℕ) → k ≤ 32 → x < 2 ^ 32 → bitOr ((x * 2 ^ k) % 2 ^ 32) (x / 2 ^ (32 - k)) ≡ rotatedUp k x
 unfolding rotatedUp

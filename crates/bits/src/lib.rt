@@ -9,10 +9,7 @@ pub fn selected_bits(code: u32) -> u32
     requires { ⌜ code < 4 ⌝ }
     ensures { λ r. ⌜ (r ≡ selected code) × (8 ≤ r) × (r ≤ 32) ⌝ }
 {
-    if code == 0 {
-        return 32;
-    }
-    8 * code
+    32 - (4 - code) % 4 * 8
 }
 
 // The low n bits set.
@@ -47,19 +44,27 @@ pub fn bit(i: u32, x: u32) -> u32
     (x >> i) % 2
 }
 
+// The selected bits moved to the top of the word, where one shift or test serves every width.
+fn top(x: u32, n: u32) -> u32
+    requires { ⌜ (1 ≤ n) × (n ≤ 32) ⌝ }
+    ensures { λ r. ⌜ r ≡ x % 2 ^ n * 2 ^ (32 - n) ⌝ }
+{
+    x << (32 - n)
+}
+
 // The top selected bit.
 pub fn sign(x: u32, n: u32) -> u32
     requires { ⌜ (1 ≤ n) × (n ≤ 32) ⌝ }
     ensures { λ r. ⌜ r ≡ signOf n x ⌝ }
 {
-    bit(n - 1, x)
+    top(x, n) >> 31
 }
 
 pub fn is_zero(x: u32, n: u32) -> u32
     requires { ⌜ (1 ≤ n) × (n ≤ 32) ⌝ }
     ensures { λ r. ⌜ r ≡ zeroOf n x ⌝ }
 {
-    if cut(x, n) == 0 { 1 } else { 0 }
+    if top(x, n) == 0 { 1 } else { 0 }
 }
 
 // 32 copies of a flag.
@@ -91,7 +96,7 @@ pub fn carry(a: u32, b: u32, c: u32, s: u32, n: u32) -> u32
     requires { ⌜ (1 ≤ n) × (n ≤ 32) × (c < 2) × (s ≡ (a + b + c) % 2 ^ 32) ⌝ }
     ensures { λ r. ⌜ r ≡ carryOf n a b c ⌝ }
 {
-    bit(n - 1, (a & b) | ((a | b) & !s))
+    sign((a & b) | ((a | b) & !s), n)
 }
 
 // Its overflow: the sum's sign is that of neither operand.
@@ -99,7 +104,7 @@ pub fn overflow(a: u32, b: u32, c: u32, s: u32, n: u32) -> u32
     requires { ⌜ (1 ≤ n) × (n ≤ 32) × (c < 2) × (s ≡ (a + b + c) % 2 ^ 32) ⌝ }
     ensures { λ r. ⌜ r ≡ overflowOf n a b c ⌝ }
 {
-    bit(n - 1, (a ^ s) & (b ^ s))
+    sign((a ^ s) & (b ^ s), n)
 }
 
 // A word shifted up by k, zeros below.

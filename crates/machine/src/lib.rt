@@ -4,17 +4,19 @@ ghost use Prim.Native.Nat.{ℕ, _+_, _*_, _/_, _%_, _^_, _<_, _≤_, max};
 ghost use Rattle.machine.specs.Status.{workedOut, asRead, loaded, Good, freshOf};
 ghost use Rattle.machine.specs.Inputs.{bitsOf, positionOf, widthOf, carryIn, linkIn, fullWidth, leaving, result, Sound};
 
-// The status register as fields, without bits 13, 14, 15 and 23. Each flag is 0 or 1.
+// The status register as fields, without bits 13, 14, 15 and 23. Each flag is 0 or 1. Their order is for speed alone: with it no operation
+// leaves two fields by themselves between others that it touches. The compiler would copy such a pair as one number of 64 bits, in that
+// operation and so in the whole run, and take it apart again for each word (docs/SPEED.md).
 pub struct Status {
     pub position: u32,
-    pub width: u32,
-    pub c: u32,
-    pub n: u32,
     pub v: u32,
-    pub z: u32,
-    pub l: u32,
+    pub width: u32,
     pub m: u32,
     pub s: u32,
+    pub c: u32,
+    pub l: u32,
+    pub n: u32,
+    pub z: u32,
     pub nibbles: u32,
 }
 

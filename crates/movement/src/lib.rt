@@ -6,8 +6,9 @@ use machine::Status;
 ghost use mathlib.Core.Path.{_≡_};
 ghost use Prim.Native.Nat.{ℕ, _<_, _≤_};
 ghost use lib.Bits.{bitAnd, bitOr, bitXor};
-ghost use Rattle.bits.specs.Bits.{notOf};
-ghost use Rattle.machine.specs.Inputs.{Sound, result};
+ghost use Rattle.bits.specs.Bits.{notOf, merged};
+ghost use Rattle.machine.specs.Status.{asRead};
+ghost use Rattle.machine.specs.Inputs.{Sound, bitsOf, result};
 ghost use Rattle.movement.specs.DataMovement.{zeroExtend, signExtend, PASS-STAT, PASS-Q, loadQ, loadStatus};
 ghost use Rattle.movement.specs.Logical.{ZERO, SIGN, OR, XOR, AND, XNOR};
 ghost use Rattle.movement.specs.Prioritize.{prioritize};
@@ -81,14 +82,26 @@ pub fn merge(x: Inputs, s: u32, u: u32) -> Outputs
     x.result(s, u)
 }
 
+// What is loaded into the status register: s in the selected bytes, over the register as it is read. Where all four are selected, as in a
+// handler's last word, the register need not be read.
+fn over_status(x: Inputs, s: u32) -> u32
+    requires { ⌜ Sound x ⌝ }
+    ensures { λ r. ⌜ r ≡ merged (bitsOf x) s (asRead (x .status)) ⌝ }
+{
+    if x.code == 0 {
+        return s;
+    }
+    let n = x.bits();
+    let old = x.status;
+    bits::merge(s, old.read(), n)
+}
+
 // LDSTAT-A, LDSTAT-B: Y shows the operand's bytes as they are, the register takes them without bits 13, 14, 15 and 23.
 pub fn load_status(x: Inputs, s: u32) -> Outputs
     requires { ⌜ Sound x ⌝ }
     ensures { λ r. ⌜ r ≡ loadStatus x s ⌝ }
 {
-    let n = x.bits();
-    let old = x.status;
-    let y = bits::merge(s, old.read(), n);
+    let y = over_status(x, s);
     Outputs {
         y,
         q: x.q,

@@ -1,51 +1,54 @@
 -- Laws of one word: which opcodes have a page, which fields are in range, and that a word's number, its fields and its six bytes determine
 -- one another. Assumes nothing.
 use mathlib.Core.Path.{_≡_, refl, ap, _∙_, sym}
-use mathlib.Core.List.{List, [], _∷_, _++_}
+use mathlib.Core.List.{List, [], _∷_, _++_, map}
 use mathlib.Core.Bool.{Bool, true, false, _||_, true≢false, or-assoc, or-false}
-use Prim.Native.Nat.{ℕ, _+_, _*_, _/_, _%_, _^_, _≤_, _<_}
+use Prim.Native.Nat.{ℕ, zero, suc, _+_, _*_, _/_, _%_, _^_, _≤_, _<_}
 use native.Mathlib.Omega.{arith}
 use native.Mathlib.Decide.{decLt}
 use native.Mathlib.Nat.{mod-eq-of-lt}
-use borrow.Author.Tests.{ltb-false, le-ltb}
-use lib.Dec.{ltb}
+use borrow.Author.Tests.{ltb-false, lt-ltb, le-ltb}
+use lib.Dec.{eqb, ltb}
 use lib.Pow.{split, mod-pow-add}
-use lib.ListN.{length, List·getD-eq-default}
+use lib.ListN.{length, getD, List·getD-eq-default, List·getD-map}
 use Rattle.chip.specs.declared.Word.{Word}
-use Rattle.chip.specs.declared.Operation.{Operation}
-use Rattle.chip.specs.declared.Decoded.the-variants.{Known, Opcode}
-use Rattle.chip.specs.Glossary.{glossary}
+use Rattle.chip.specs.Glossary.{Page, glossary, pageOf}
 use Rattle.chip.specs.Glossary.Page.{no-page}
-use Rattle.chip.specs.Operations.{decodedOf}
 use Rattle.chip.specs.Single.{noPage, outOfRange}
-use Rattle.chip.proofs.Pages.{pageFor, page-decoded}
 use Rattle.packing.specs.Packing.{number6, fieldsOf, spareOf, packedNumber, bytes6, lacksPage, some, named, tooLarge, InRange}
 
 -- ---- pages
--- what decodes to an operation has a page
-pub known-page : (n : ℕ) (o : Operation) → decodedOf n ≡ Known o → lacksPage n ≡ false
-unfolding lacksPage
-known-page n o e = ap noPage (page-decoded n ∙ ap pageFor e)
+-- the code's test of a number
+unfoldable pub pageless : ℕ → Bool
+pageless n = ltb 127 n || eqb (n / 2) 0x0f || eqb (n / 2) 0x26
 
--- what decodes to Opcode has none
-pub opcode-page : (n : ℕ) → decodedOf n ≡ Opcode → lacksPage n ≡ true
-unfolding lacksPage
-opcode-page n e = ap noPage (page-decoded n ∙ ap pageFor e)
+-- the test of as many numbers as a list has pages, from k on
+abbrev tests : ℕ → List Page → List Bool
+tests k [] = []
+tests k (p ∷ ps) = pageless k ∷ tests (suc k) ps
 
--- so a number with a page decodes to an operation
-pub page-known : (n : ℕ) → lacksPage n ≡ false → decodedOf n ≡ Opcode → ⊥
-page-known n h e = true≢false (sym (opcode-page n e) ∙ h)
+test-at : (k : ℕ) (ps : List Page) (i : ℕ) → i < length ps → getD (tests k ps) i true ≡ pageless (k + i)
+test-at k [] i h = absurd (omega arith)
+test-at k (p ∷ ps) zero h = ap pageless (omega arith)
+test-at k (p ∷ ps) (suc i) h = test-at (suc k) ps i (omega arith) ∙ ap pageless (omega arith)
 
--- there is no page past 127
-pub page-small : (n : ℕ) → lacksPage n ≡ false → n < 128
-unfolding lacksPage
-page-small n h = go (decLt n 128)
+-- all 128 entries, by computation
+one-test : tests 0 glossary ≡ map noPage glossary
+unfolding pageless
+one-test = refl
+
+-- the test and the glossary agree; past its end there is no page
+pub page-test : (n : ℕ) → pageless n ≡ lacksPage n
+unfolding lacksPage pageless
+page-test n = go (decLt n 128)
   where
-    go : Dec (n < 128) → n < 128
-    go (yes l) = l
+    go : Dec (n < 128) → pageless n ≡ noPage (pageOf n)
+    go (yes l) =
+        let e : 0 + n ≡ n = omega arith in
+        rw e at (sym (test-at 0 glossary n l)) ∙ ap (λ (ts : List Bool). getD ts n true) one-test ∙ List·getD-map noPage glossary n no-page
     go (no l) =
         let far : length glossary ≤ n = omega arith in
-        absurd (true≢false (sym (ap noPage (List·getD-eq-default glossary no-page far)) ∙ h))
+        rw (List·getD-eq-default glossary no-page far, lt-ltb 127 n (omega arith)) refl
 
 -- ---- ranges
 pub or-left : (a b : Bool) → (a || b) ≡ false → a ≡ false
@@ -55,6 +58,11 @@ or-left false b h = refl
 pub or-right : (a b : Bool) → (a || b) ≡ false → b ≡ false
 or-right true b h = absurd (true≢false h)
 or-right false b h = h
+
+-- there is no page past 127
+pub page-small : (n : ℕ) → lacksPage n ≡ false → n < 128
+unfolding pageless
+page-small n h = omega (arith, ltb-false 127 n (or-left _ _ (or-left _ _ (page-test n ∙ h))))
 
 -- three tests, as the code nests them
 pub some-three : (p : ℕ → Bool) (x y z : ℕ) → (p x || p y || p z) ≡ some p (x ∷ y ∷ z ∷ [])
@@ -274,3 +282,25 @@ bytes-number b0 b1 b2 b3 b4 b5 h0 h1 h2 h3 h4 h5 = λ i. e0 i ∷ e1 i ∷ e2 i 
 
     e5 : joined6 b0 b1 b2 b3 b4 b5 % 256 ≡ b5
     e5 = omega arith
+
+-- ---- its first four bytes, as the code reads them
+-- the first lowest
+abbrev low4 : ℕ → ℕ → ℕ → ℕ → ℕ
+low4 b0 b1 b2 b3 = b0 + b1 * 2 ^ 8 + b2 * 2 ^ 16 + b3 * 2 ^ 24
+
+-- turned, the first stands highest
+pub turned-low : (b0 b1 b2 b3 v : ℕ) → b0 < 256 → b1 < 256 → b2 < 256 → b3 < 256 → v ≡ low4 b0 b1 b2 b3
+    → v % 2 ^ 8 * 2 ^ 24 + v / 2 ^ 8 % 2 ^ 8 * 2 ^ 16 + v / 2 ^ 16 % 2 ^ 8 * 2 ^ 8 + v / 2 ^ 24 ≡ b0 * 2 ^ 24 + b1 * 2 ^ 16 + b2 * 2 ^ 8 + b3
+turned-low b0 b1 b2 b3 v h0 h1 h2 h3 e = rw (e, e0, e1, e2, e3) refl
+  where
+    e0 : low4 b0 b1 b2 b3 % 2 ^ 8 ≡ b0
+    e0 = omega arith
+
+    e1 : low4 b0 b1 b2 b3 / 2 ^ 8 % 2 ^ 8 ≡ b1
+    e1 = omega arith
+
+    e2 : low4 b0 b1 b2 b3 / 2 ^ 16 % 2 ^ 8 ≡ b2
+    e2 = omega arith
+
+    e3 : low4 b0 b1 b2 b3 / 2 ^ 24 ≡ b3
+    e3 = omega arith

@@ -1,11 +1,10 @@
 // A word of a sheet: 48 bits in six bytes, most significant first, packed and unpacked.
-use chip::Decoded;
 use chip::Word;
 use reasons::Check;
 use reasons::Reason;
 ghost use mathlib.Core.Path.{_≡_};
 ghost use mathlib.Core.List.{_∷_, _++_};
-ghost use Prim.Native.Nat.{_+_, _*_, _^_, _≤_};
+ghost use Prim.Native.Nat.{_+_, _*_, _/_, _%_, _^_, _≤_};
 ghost use lib.ListN.{length, drop};
 ghost use lib.Dec.{leb};
 ghost use Rattle.packing.specs.Packing.{number6, fieldsOf, packedNumber, bytes6, lacksPage, some, named, tooLarge, InRange, ended, packOf, unpackOf, unpackedBy, blank};
@@ -16,16 +15,26 @@ pub struct Unpacked {
     pub word: Word,
 }
 
-// Six bytes as one number, the first highest.
+// Four bytes as one number, the first lowest: one load on a little-endian machine.
+fn low_first(b0: u8, b1: u8, b2: u8, b3: u8) -> u32
+    ensures { λ r. ⌜ r ≡ b0 + b1 * 2 ^ 8 + b2 * 2 ^ 16 + b3 * 2 ^ 24 ⌝ }
+{
+    b0 as u32 + b1 as u32 * 0x100 + b2 as u32 * 0x1_0000 + b3 as u32 * 0x100_0000
+}
+
+// The four bytes of a number the other way round: one instruction.
+fn turned(v: u32) -> u32
+    ensures { λ r. ⌜ r ≡ v % 2 ^ 8 * 2 ^ 24 + v / 2 ^ 8 % 2 ^ 8 * 2 ^ 16 + v / 2 ^ 16 % 2 ^ 8 * 2 ^ 8 + v / 2 ^ 24 ⌝ }
+{
+    v % 256 * 0x100_0000 + v / 0x100 % 256 * 0x1_0000 + v / 0x1_0000 % 256 * 0x100 + v / 0x100_0000
+}
+
+// Six bytes as one number, the first highest: the first four come at once, by one load and one turn.
 fn joined(b0: u8, b1: u8, b2: u8, b3: u8, b4: u8, b5: u8) -> u64
     ensures { λ r. ⌜ r ≡ b0 * 2 ^ 40 + b1 * 2 ^ 32 + b2 * 2 ^ 24 + b3 * 2 ^ 16 + b4 * 2 ^ 8 + b5 ⌝ }
 {
-    b0 as u64 * 0x100_0000_0000
-        + b1 as u64 * 0x1_0000_0000
-        + b2 as u64 * 0x100_0000
-        + b3 as u64 * 0x1_0000
-        + b4 as u64 * 0x100
-        + b5 as u64
+    let low = low_first(b0, b1, b2, b3);
+    turned(low) as u64 * 0x1_0000 + b4 as u64 * 0x100 + b5 as u64
 }
 
 // The six bytes at the start of `s`, as one number. Public for the crates above, which see to the length.
@@ -56,17 +65,15 @@ pub fn fields(v: u64) -> Word
     }
 }
 
-// Whether an opcode number has no page in chapter 2 (reason Opcode).
+// Whether an opcode number has no page in chapter 2 (reason Opcode): 1E, 1F, 4C, 4D, and all above 7F. Here and below `|` tests all, without
+// a branch for each.
 pub fn lacks_page(n: u32) -> bool
     ensures { λ r. ⌜ r ≡ lacksPage n ⌝ }
 {
-    match chip::decode(n) {
-        Decoded::Known(_) => false,
-        Decoded::Opcode => true,
-    }
+    (127 < n) | (n / 2 == 0x0f) | (n / 2 == 0x26)
 }
 
-// Whether a field of the word names a register from n on. Here and below `|` tests all, without a branch for each.
+// Whether a field of the word names a register from n on.
 pub fn names_from(n: u32, w: Word) -> bool
     ensures { λ r. ⌜ r ≡ some (leb n) (named w) ⌝ }
 {

@@ -1,12 +1,12 @@
 -- Tables of rows: a reason is given exactly when its row's condition holds and no earlier one does, proved once for all tables; and how a table
 -- goes on after a part of it. Assumes nothing.
-use mathlib.Core.Path.{_≡_, refl, ap, _∙_, subst}
+use mathlib.Core.Path.{_≡_, refl, ap, _∙_, sym, subst}
 use mathlib.Core.List.{List, [], _∷_, _++_}
-use mathlib.Core.Bool.{Bool, true, false}
+use mathlib.Core.Bool.{Bool, true, false, not, _&&_, true≢false, and-assoc}
 use Prim.Native.Nat.{ℕ, zero, suc, _+_, _-_, _≤_, _<_}
 use native.Mathlib.Omega.{arith}
 use native.Mathlib.Decide.{ℕ-discrete}
-use Rattle.reasons.specs.Reasons.{Row, firstOf, rowsBy, orElse}
+use Rattle.reasons.specs.Reasons.{Row, firstOf, noneHold, rowsBy, orElse}
 use Rattle.reasons.specs.declared.Reason.{Reason}
 use Rattle.reasons.specs.declared.Check.the-variants.{Good, Bad}
 
@@ -27,6 +27,20 @@ good-none (r ∷ rs) e = go (r .holds) refl e (good-none rs)
 pub none-good : (a : List Row) → None a → firstOf a ≡ Good
 none-good [] n = refl
 none-good (r ∷ rs) (more h n) = rw h (none-good rs n)
+
+-- the same by a test of the whole table
+pub hold-good : (a : List Row) → noneHold a ≡ true → firstOf a ≡ Good
+hold-good [] e = refl
+hold-good (r ∷ rs) e = go (r .holds) e (hold-good rs)
+  where
+    go : (b : Bool) → (not b && noneHold rs) ≡ true → (noneHold rs ≡ true → firstOf rs ≡ Good) → orElse b (Bad (r .reason) (r .place)) (firstOf rs) ≡ Good
+    go true f i = absurd (true≢false (sym f))
+    go false f i = i f
+
+-- which goes part by part
+hold-append : (a b : List Row) → noneHold (a ++ b) ≡ (noneHold a && noneHold b)
+hold-append [] b = refl
+hold-append (r ∷ rs) b = rw (hold-append rs b, and-assoc) refl
 
 -- a table after one in which no row holds
 pub first-past : (a b : List Row) → None a → firstOf (a ++ b) ≡ firstOf b
@@ -94,6 +108,14 @@ module _ (f : ℕ → List Row) where
 
   pub rows-good : (k count : ℕ) → k < count → firstOf (f k) ≡ Good → firstOf (rowsBy f k (count - k)) ≡ firstOf (rowsBy f (k + 1) (count - (k + 1)))
   rows-good k count h e = ap firstOf (rows-more k count h) ∙ first-good (f k) (rowsBy f (k + 1) (count - (k + 1))) e
+
+  -- with the answer so far, and that of the next test
+  pub rows-hold : (good t : Bool) (k count : ℕ) → k < count → t ≡ noneHold (f k)
+      → (good && noneHold (rowsBy f k (count - k))) ≡ (good && t && noneHold (rowsBy f (k + 1) (count - (k + 1))))
+  rows-hold good t k count h e =
+      let rest : List Row = rowsBy f (k + 1) (count - (k + 1)) in
+      ap (λ (b : Bool). good && b) (ap noneHold (rows-more k count h) ∙ hold-append (f k) rest)
+      ∙ sym (and-assoc good (noneHold (f k)) (noneHold rest)) ∙ ap (λ (b : Bool). good && b && noneHold rest) (sym e)
 
 -- a part of the table in which no row holds
 none-left : (a b : List Row) → None (a ++ b) → None a

@@ -1,6 +1,6 @@
 -- The reasons given (document 01's table): their numbers, and tables of rows in their order. Assumes nothing.
 use mathlib.Core.List.{List, [], _∷_, _++_}
-use mathlib.Core.Bool.{Bool, true, false}
+use mathlib.Core.Bool.{Bool, true, false, not, _&&_}
 use Prim.Native.Nat.{ℕ, zero, suc, _+_}
 use Rattle.reasons.specs.declared.Reason.{Reason}
 use Rattle.reasons.specs.declared.Reason.the-variants.{Done, Opcode, Inputs, Short, Version, Header, Length, File, Spare, Register, Start, Form, Overlap, Schedule, Room}
@@ -42,6 +42,11 @@ orElse false c d = d
 abbrev pub firstOf : List Row → Check
 firstOf [] = Good
 firstOf (r ∷ rs) = orElse (r .holds) (Bad (r .reason) (r .place)) (firstOf rs)
+
+-- whether no row holds
+abbrev pub noneHold : List Row → Bool
+noneHold [] = true
+noneHold (r ∷ rs) = not (r .holds) && noneHold rs
 
 -- the rows of m things one after another, from thing k on
 abbrev pub rowsBy : (ℕ → List Row) → ℕ → ℕ → List Row

@@ -1,5 +1,4 @@
 // Runs a sheet on a lent file of registers.
-use chip::Decoded;
 use chip::Word;
 use machine::Inputs;
 use machine::Machine;
@@ -13,8 +12,6 @@ ghost use mathlib.Core.List.{[], _∷_};
 ghost use Prim.Native.Nat.{_+_, _-_, _*_, _^_, _≤_, _<_, min};
 ghost use lib.ListN.{length};
 ghost use Rattle.machine.specs.Status.{asRead, Good};
-ghost use Rattle.machine.specs.Inputs.{Sound};
-ghost use Rattle.chip.specs.Glossary.{performOf};
 ghost use Rattle.sheet.specs.Sheet.{sheetOf, wordsOf, wordAt, WordReady, Ready};
 ghost use Rattle.run.specs.Run.{state, Stepped, goingFrom, wordsFrom, Went, ended, runOf, shown, tracedOf};
 
@@ -40,24 +37,6 @@ pub struct Traced {
 
 // ---- one word
 
-// An opcode number on what stands at the chip. One with no page, which no checked sheet has, would leave all as it was.
-fn operate(opcode: u32, x: Inputs) -> Outputs
-    requires { ⌜ Sound x ⌝ }
-    ensures { λ r. ⌜ r ≡ performOf opcode x ⌝ }
-{
-    match chip::decode(opcode) {
-        Decoded::Known(operation) => chip::perform(operation, x),
-        Decoded::Opcode => {
-            let status = x.status;
-            Outputs {
-                y: 0,
-                q: x.q,
-                status,
-            }
-        }
-    }
-}
-
 // One word: A and B are read from the file, and Y is stored only when write is 1.
 fn step(word: Word, file: &mut [u32], q: u32, status: Status) -> Outputs
     requires { ⌜ WordReady (length (now file)) word × Good status ⌝ }
@@ -79,7 +58,7 @@ fn step(word: Word, file: &mut [u32], q: u32, status: Status) -> Outputs
         q,
         status,
     };
-    let out = operate(word.opcode, x);
+    let out = dispatch::operate(word.opcode, x);
     if word.write == 1 {
         file[y] = out.y;
         return out;

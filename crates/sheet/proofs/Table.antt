@@ -8,7 +8,7 @@ use native.Mathlib.Omega.{arith}
 use borrow.Author.Tests.{lt-ltb, le-ltb, eqb-true, eqb-false, ltb-false, leb-false, not-false}
 use lib.ListN.{length, length-take, length-drop}
 use lib.Dec.{eqb, ltb, leb}
-use Rattle.reasons.specs.Reasons.{Row, _gives_at_, firstOf, rowsBy}
+use Rattle.reasons.specs.Reasons.{Row, _gives_at_, firstOf, noneHold, rowsBy}
 use Rattle.reasons.specs.declared.Reason.{Reason}
 use Rattle.reasons.specs.declared.Reason.the-variants.{Short, Start}
 use Rattle.reasons.specs.declared.Check.{Check}
@@ -18,7 +18,7 @@ use Rattle.reasons.proofs.Rows.None.{none, more}
 use Rattle.sheet.specs.declared.Given.{Given}
 use Rattle.sheet.specs.declared.Given.the-variants.{Absent, Number}
 use Rattle.packing.specs.Packing.{some, named, differ}
-use Rattle.sheet.specs.Sheet.{number4, countOf, registersOf, zerosOf, wordsOf, declaredOf, partOf, numberAt, wordAt, fewer, above, wordRows, headRows, sheetRows, checkOf, WordReady, Ready}
+use Rattle.sheet.specs.Sheet.{number4, countOf, registersOf, zerosOf, wordsOf, declaredOf, partOf, numberAt, wordAt, fewer, above, numberRows, wordRows, headRows, sheetRows, checkOf, WordReady, Ready}
 use Rattle.packing.proofs.Numbers.{page-small, or-left, or-right, Every, every, fields-range}
 use Rattle.packing.proofs.Numbers.Every.{end, and}
 
@@ -72,6 +72,11 @@ module _ (s : List ℕ) (h n m : ℕ) (eh : h ≡ number4 s) (em : m ≡ countOf
 pub seen-head : (s : List ℕ) (file : Given) (h : ℕ) (c : Check) → h ≡ number4 s → c ≡ firstOf (headRows (length s) h file)
     → firstOf (headRows (length s) (number4 s) file) ≡ c
 seen-head s file h c eh e = rw (← eh) (sym e)
+
+-- what the tests of word k saw, of its number v: a row's place plays no part
+pub seen-word : (s : List ℕ) (n k v : ℕ) (b : Bool) → v ≡ numberAt s k → b ≡ noneHold (numberRows v n 0) → b ≡ noneHold (wordRows s n k)
+unfolding wordRows
+seen-word s n k v b ev e = e ∙ ap (λ (x : ℕ). noneHold (numberRows x n 0)) ev
 
 -- the length of a sheet whose header passed
 pub head-length : (len h : ℕ) (file : Given) → firstOf (headRows len h file) ≡ Good → len ≡ 4 + 6 * countOf h

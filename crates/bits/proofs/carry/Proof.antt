@@ -6,14 +6,11 @@ use borrow.Author.Needs.{needs}
 use Rattle.bits.proofs.carry.Statement.{statement}
 use Rattle.bits.proofs.carry.Tie as tie
 
-sub-bit : tie.Need-sub-bit
-sub-bit c = search needs
-
-bit-requires : tie.Need-bit-requires
-bit-requires c κs = search needs
+sign-requires : tie.Need-sign-requires
+sign-requires c κs = search needs
 
 returns : tie.Need-returns
-returns c = c .bit .ensures ∙ carry-read (c .before .args .n) (c .before .args .a) (c .before .args .b) (c .before .args .c) (c .before .args .s) (omega arith) (omega arith) (omega arith) (c .before .pre .3)
+returns c = c .sign .ensures ∙ carry-read (c .before .args .n) (c .before .args .a) (c .before .args .b) (c .before .args .c) (c .before .args .s) (omega arith) (omega arith) (omega arith) (c .before .pre .3)
 
 pub carry-spec : {M : Type 1} → statement M
-carry-spec = tie.close (tie.spec sub-bit bit-requires returns)
+carry-spec = tie.close (tie.spec sign-requires returns)

@@ -1,21 +1,26 @@
--- The test on the cut word is the definition's. Assumes nothing.
-use mathlib.Core.Path.{sym, _∙_}
+-- The test on the bits at the top is the definition's: `top-zero`. Assumes nothing.
+use mathlib.Core.Path.{sym, ap, _∙_}
 use borrow.Author.Tests.{eq-eqb, ne-eqb}
-use Rattle.bits.specs.Bits.{zeroOf}
+use Rattle.bits.specs.Bits.{zeroOf, flag}
+use Rattle.bits.proofs.Laws.{top-zero}
 use borrow.Author.Needs.{needs}
 use Rattle.bits.proofs.is_zero.Statement.{statement}
 use Rattle.bits.proofs.is_zero.Tie as tie
 
-cut-requires : tie.Need-cut-requires
-cut-requires c κs = search needs
+top-requires : tie.Need-top-requires
+top-requires c κs = search needs
 
 returns : tie.Need-returns
 unfolding zeroOf
-returns c = simp (eq-eqb _ _ (sym (c .before .cut .ensures) ∙ c .if1 .taken))
+returns c =
+    let a = c .before .before .args in
+    ap flag (sym (eq-eqb _ _ (sym (c .before .top .ensures) ∙ c .if1 .taken)) ∙ top-zero (a .n) (a .x))
 
 returns-2 : tie.Need-returns-2
 unfolding zeroOf
-returns-2 c = simp (ne-eqb _ _ (λ e. c .if1 .left (c .before .cut .ensures ∙ e)))
+returns-2 c =
+    let a = c .before .before .args in
+    ap flag (sym (ne-eqb _ _ (λ e. c .if1 .left (c .before .top .ensures ∙ e))) ∙ top-zero (a .n) (a .x))
 
 pub is-zero-spec : {M : Type 1} → statement M
-is-zero-spec = tie.close (tie.spec cut-requires returns returns-2)
+is-zero-spec = tie.close (tie.spec top-requires returns returns-2)

@@ -1,24 +1,30 @@
--- A code that is not 0 is the number of bytes. Assumes nothing.
+-- Four codes, each by computation. Assumes nothing.
 use mathlib.Core.Path.{_≡_, refl}
-use Prim.Native.Nat.{ℕ, zero, suc, _*_, _≤_, _<_}
+use Prim.Native.Nat.{ℕ, zero, suc, _-_, _*_, _%_, _≤_, _<_}
 use native.Mathlib.Omega.{arith}
 use Rattle.bits.specs.Bits.{selected}
 use borrow.Author.Needs.{needs}
 use Rattle.bits.proofs.selected_bits.Statement.{statement}
 use Rattle.bits.proofs.selected_bits.Tie as tie
 
-returns : tie.Need-returns
-returns c = search needs
+sub-result : tie.Need-sub-result
+sub-result c = search needs
 
 mul-result : tie.Need-mul-result
 mul-result c = search needs
 
-counted : (code : ℕ) → (code ≡ 0 → ⊥) → code < 4 → (8 * code ≡ selected code) × (8 ≤ 8 * code) × (8 * code ≤ 32)
-counted zero f h = absurd (f refl)
-counted (suc k) f h = (refl, omega arith, omega arith)
+sub-result-2 : tie.Need-sub-result-2
+sub-result-2 c = search needs
 
-returns-2 : tie.Need-returns-2
-returns-2 c = counted (c .before .args .code) (c .if1 .left) (omega arith)
+counted : (code : ℕ) → code < 4 → (32 - (4 - code) % 4 * 8 ≡ selected code) × (8 ≤ 32 - (4 - code) % 4 * 8) × (32 - (4 - code) % 4 * 8 ≤ 32)
+counted zero h = (refl, omega arith, omega arith)
+counted (suc zero) h = (refl, omega arith, omega arith)
+counted (suc (suc zero)) h = (refl, omega arith, omega arith)
+counted (suc (suc (suc zero))) h = (refl, omega arith, omega arith)
+counted (suc (suc (suc (suc k)))) h = absurd (omega arith)
+
+returns : tie.Need-returns
+returns c = counted (c .args .code) (omega arith)
 
 pub selected-bits-spec : {M : Type 1} → statement M
-selected-bits-spec = tie.close (tie.spec returns mul-result returns-2)
+selected-bits-spec = tie.close (tie.spec sub-result mul-result sub-result-2 returns)

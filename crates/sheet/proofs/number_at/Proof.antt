@@ -1,0 +1,22 @@
+-- The number of the word's six bytes. Assumes nothing.
+use mathlib.Core.Path.{ap, _∙_}
+use native.Mathlib.Omega.{arith}
+use lib.ListN.{length}
+use Rattle.sheet.specs.Sheet.{numberAt}
+use Rattle.sheet.proofs.Table.{part-six}
+use borrow.Author.Needs.{needs}
+use Rattle.sheet.proofs.number_at.Statement.{statement}
+use Rattle.sheet.proofs.number_at.Tie as tie
+
+part-requires : tie.Need-part-requires
+part-requires c κs = search needs
+
+word-number-requires : tie.Need-word-number-requires
+word-number-requires c κs = omega (arith, ap length (c .part .ensures) ∙ part-six _ _ (c .before .before .pre))
+
+returns : tie.Need-returns
+unfolding numberAt
+returns c = rw (c .word-number .ensures, c .before .part .ensures)
+
+pub number-at-spec : {M : Type 1} → statement M
+number-at-spec = tie.close (tie.spec part-requires word-number-requires returns)
