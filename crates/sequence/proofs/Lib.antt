@@ -8,3 +8,4 @@ pub mod DecimalWords
 pub mod Decimal
 pub mod AppendixA
 pub mod OnSheets
+pub mod Compare

@@ -3,3 +3,4 @@ pub mod Results
 pub mod Decimal
 pub mod AppendixA
 pub mod OnSheets
+pub mod Compare

@@ -1,0 +1,140 @@
+-- SUB compares: N xor V is 'signed less than' at every width, whatever the operands. The low bits say whether the sign bits are borrowed from; the
+-- rest is a table of two sign bits and that. Assumes nothing.
+use mathlib.Core.Path.{_≡_, refl, sym, ap, ap₂, _∙_, subst}
+use mathlib.Core.Bool.{Bool, true, false}
+use Prim.Native.Nat.{ℕ, zero, suc, _+_, _-_, _*_, _/_, _%_, _^_, _≤_, _<_, max}
+use native.Mathlib.Nat.{mod-lt, mod-eq-of-lt, add-mod-right}
+use native.Mathlib.Omega.{arith}
+use lib.Dec.{ltb, leb, lit<}
+use lib.Arith.{digits-div}
+use lib.Pow.{pow-pos, pow-add, mod-pow-add, high, low}
+use borrow.Author.Tests.{leb-true, leb-false, lt-ltb, le-ltb}
+use Rattle.bits.specs.Bits.{flag, xor, bitOf, signOf, notOf, carryOf, overflowOf}
+use Rattle.bits.proofs.BitByBit.{bit-lt, by-flag, bit-not}
+use Rattle.bits.proofs.Adder.{full-sum, full-carry}
+use Rattle.machine.specs.declared.Status.{Status}
+use Rattle.machine.specs.declared.Inputs.{Inputs}
+use Rattle.machine.specs.Status.{workedOut, asRead, Good}
+use Rattle.machine.specs.Inputs.{bitsOf, Sound}
+use Rattle.bits.proofs.Bounds.{selected-bounds}
+use Rattle.machine.proofs.Kept.{bits-le}
+use Rattle.arithmetic.specs.Arithmetic.{difference, SUB}
+use Rattle.arithmetic.proofs.Kept.{difference-kept}
+use Rattle.sequence.specs.Compare.{ranked, signedLess, lessBit}
+use Rattle.sequence.proofs.Lists.{not-cut}
+
+-- ---- on numbers
+-- two numbers by sign bit and low bits, where k says that nothing is borrowed from the sign bits
+module _ (P la lb : ℕ) (ha : la < P) (hb : lb < P) where
+  -- sign bits x and y: N xor V, beside the order of the numbers
+  abbrev Row : ℕ → ℕ → ℕ → Type 0
+  Row k x y = xor ((x + (1 - y) + k) % 2) (xor k ((x + (1 - y) + k) / 2)) ≡ flag (ltb ((1 - x) * P + la) ((1 - y) * P + lb))
+
+  by-signs : (k : ℕ) → Row k 0 0 → Row k 0 1 → Row k 1 0 → Row k 1 1 → (x y : ℕ) → x < 2 → y < 2 → Row k x y
+  by-signs k r₀ r₁ r₂ r₃ x y hx hy =
+      by-flag (λ (x : ℕ). Row k x y) (by-flag (Row k 0) r₀ r₁ y hy) (by-flag (Row k 1) r₂ r₃ y hy) x hx
+
+  is : (x y : ℕ) → (1 - x) * P + la < (1 - y) * P + lb → 1 ≡ flag (ltb ((1 - x) * P + la) ((1 - y) * P + lb))
+  is x y h = sym (ap flag (lt-ltb _ _ h))
+
+  is-not : (x y : ℕ) → (1 - y) * P + lb ≤ (1 - x) * P + la → 0 ≡ flag (ltb ((1 - x) * P + la) ((1 - y) * P + lb))
+  is-not x y h = sym (ap flag (le-ltb _ _ h))
+
+  table : (t : Bool) → leb lb la ≡ t → (x y : ℕ) → x < 2 → y < 2 → Row (flag t) x y
+  table true e =
+      let h : lb ≤ la = leb-true lb la e in
+      by-signs 1 (is-not 0 0 (omega arith)) (is-not 0 1 (omega arith)) (is 1 0 (omega arith)) (is-not 1 1 (omega arith))
+  table false e =
+      let h : la < lb = leb-false lb la e in
+      by-signs 0 (is 0 0 (omega arith)) (is-not 0 1 (omega arith)) (is 1 0 (omega arith)) (is 1 1 (omega arith))
+
+  -- the carry out of the low bits of la - lb
+  kept : (t : Bool) → leb lb la ≡ t → (la + ((P - 1) - lb) + 1) / P ≡ flag t
+  kept true e = let h : lb ≤ la = leb-true lb la e in ap (λ (v : ℕ). v / P) shape ∙ digits-div 1 (omega arith)
+    where
+      shape : la + ((P - 1) - lb) + 1 ≡ 1 * P + (la - lb)
+      shape = let h : lb ≤ la = leb-true lb la e in omega arith
+  kept false e = let h : la < lb = leb-false lb la e in ap (λ (v : ℕ). v / P) shape ∙ digits-div 0 (omega arith)
+    where
+      shape : la + ((P - 1) - lb) + 1 ≡ 0 * P + ((la + P) - lb)
+      shape = let h : la < lb = leb-false lb la e in omega arith
+
+-- a signed number in order, by its sign bit and its low bits
+ranked-parts : (i x : ℕ) → (x % 2 ^ (1 + i) + 2 ^ i) % 2 ^ (1 + i) ≡ (1 - bitOf i x) * 2 ^ i + x % 2 ^ i
+ranked-parts i x =
+    ap (λ (v : ℕ). (v + 2 ^ i) % 2 ^ (1 + i)) (mod-pow-add x 1 i)
+    ∙ ap (λ (M : ℕ). (bitOf i x * 2 ^ i + x % 2 ^ i + 2 ^ i) % M) (pow-add 2 1 i)
+    ∙ turned (2 ^ i) (x % 2 ^ i) (mod-lt x (pow-pos i)) (bitOf i x) (bit-lt i x)
+  where
+    turned : (P l : ℕ) → l < P → (s : ℕ) → s < 2 → (s * P + l + P) % (2 ^ 1 * P) ≡ (1 - s) * P + l
+    turned P l h =
+        by-flag (λ (s : ℕ). (s * P + l + P) % (2 ^ 1 * P) ≡ (1 - s) * P + l)
+        (mod-eq-of-lt (omega arith) ∙ omega arith)
+        (ap (λ (v : ℕ). v % (2 ^ 1 * P)) (omega arith) ∙ add-mod-right l (2 ^ 1 * P) ∙ mod-eq-of-lt (omega arith) ∙ omega arith)
+
+-- the carry out of the low i bits of a - b
+low-carry : (i a b : ℕ) → i < 32 → b < 2 ^ 32 → carryOf i a (notOf b) 1 ≡ flag (leb (b % 2 ^ i) (a % 2 ^ i))
+unfolding carryOf
+low-carry i a b hi hb =
+    ap (λ (v : ℕ). (a % 2 ^ i + v + 1) / 2 ^ i) (not-cut i b (omega arith) hb)
+    ∙ kept (2 ^ i) (a % 2 ^ i) (b % 2 ^ i) (mod-lt a (pow-pos i)) (mod-lt b (pow-pos i)) (leb (b % 2 ^ i) (a % 2 ^ i)) refl
+
+-- N xor V of a - b at 1 + i bits
+less-numbers : (i a b : ℕ) → i < 32 → b < 2 ^ 32
+    → xor (bitOf i (a + notOf b + 1)) (xor (carryOf i a (notOf b) 1) (carryOf (suc i) a (notOf b) 1))
+    ≡ flag (ltb ((1 - bitOf i a) * 2 ^ i + a % 2 ^ i) ((1 - bitOf i b) * 2 ^ i + b % 2 ^ i))
+less-numbers i a b hi hb =
+    ap₂ (λ (f c : ℕ). xor f (xor (carryOf i a (notOf b) 1) c)) (full-sum i a (notOf b) 1) (full-carry i a (notOf b) 1)
+    ∙ ap (λ (y : ℕ). xor ((bitOf i a + y + carryOf i a (notOf b) 1) % 2) (xor (carryOf i a (notOf b) 1) ((bitOf i a + y + carryOf i a (notOf b) 1) / 2))) (bit-not i b hi hb)
+    ∙ ap (λ (k : ℕ). xor ((bitOf i a + (1 - bitOf i b) + k) % 2) (xor k ((bitOf i a + (1 - bitOf i b) + k) / 2))) (low-carry i a b hi hb)
+    ∙ table (2 ^ i) (a % 2 ^ i) (b % 2 ^ i) (mod-lt a (pow-pos i)) (mod-lt b (pow-pos i)) (leb (b % 2 ^ i) (a % 2 ^ i)) refl (bitOf i a) (bitOf i b) (bit-lt i a) (bit-lt i b)
+
+-- at n bits, as the definitions have it
+less-bits : (n a b : ℕ) → 1 ≤ n → n ≤ 32 → b < 2 ^ 32 → xor (signOf n (a + notOf b + 1)) (overflowOf n a (notOf b) 1) ≡ signedLess n a b
+unfolding overflowOf
+less-bits n a b h l hb =
+    let e : suc (n - 1) ≡ n = omega arith in
+    let f : 1 + (n - 1) ≡ n = omega arith in
+    ap (λ (k : ℕ). xor (bitOf (n - 1) (a + notOf b + 1)) (xor (carryOf (n - 1) a (notOf b) 1) (carryOf k a (notOf b) 1))) (sym e)
+    ∙ less-numbers (n - 1) a b (omega arith) hb
+    ∙ sym (ap₂ (λ (p q : ℕ). flag (ltb p q)) (parts f a) (parts f b))
+  where
+    parts : 1 + (n - 1) ≡ n → (x : ℕ) → ranked n x ≡ (1 - bitOf (n - 1) x) * 2 ^ (n - 1) + x % 2 ^ (n - 1)
+    parts f x = subst (λ (k : ℕ). (x % 2 ^ k + 2 ^ (n - 1)) % 2 ^ k ≡ (1 - bitOf (n - 1) x) * 2 ^ (n - 1) + x % 2 ^ (n - 1)) f (ranked-parts (n - 1) x)
+
+-- ---- on the chip
+-- a bit above the low 14
+bit-at : (hi f lo x : ℕ) → x ≡ (hi * 2 ^ 1 + f) * 2 ^ 14 + lo → lo < 2 ^ 14 → f < 2 ^ 1 → bitOf 14 x ≡ f
+bit-at hi f lo x e l h = ap (bitOf 14) e ∙ ap (λ (y : ℕ). y % 2 ^ 1) (high (hi * 2 ^ 1 + f) 14 l) ∙ low hi 1 h
+
+-- bit 14 of the register as it is read
+read-less : (s : Status) → Good s → bitOf 14 (asRead s) ≡ xor (s .n) (s .v)
+unfolding asRead
+read-less s g =
+    let x : xor (s .n) (s .v) < 2 = mod-lt (s .n + s .v) (lit< tt) in
+    bit-at
+    (max (xor (s .n) (s .v)) (s .z) + s .c * 2 + s .n * 2 ^ 2 + s .v * 2 ^ 3 + s .z * 2 ^ 4 + s .l * 2 ^ 5 + s .m * 2 ^ 6 + s .s * 2 ^ 7 + s .nibbles * 2 ^ 9)
+    (xor (s .n) (s .v))
+    (s .position + s .width * 2 ^ 8 + max (s .c) (s .z) * 2 ^ 13)
+    (asRead s)
+    (parts (s .position) (s .width) (max (s .c) (s .z)) (xor (s .n) (s .v)) (max (xor (s .n) (s .v)) (s .z)) (s .c) (s .n) (s .v) (s .z) (s .l) (s .m) (s .s) (s .nibbles))
+    (small (s .position) (s .width) (max (s .c) (s .z)) (g .position) (g .width) (flags (s .c) (s .z) (g .c) (g .z)))
+    x
+  where
+    parts : (p w e x f c n v z l m s b : ℕ)
+        → p + w * 2 ^ 8 + (e + x * 2 + f * 4) * 2 ^ 13 + c * 2 ^ 16 + n * 2 ^ 17 + v * 2 ^ 18 + z * 2 ^ 19 + l * 2 ^ 20 + m * 2 ^ 21 + s * 2 ^ 22 + b * 2 ^ 24
+        ≡ ((f + c * 2 + n * 2 ^ 2 + v * 2 ^ 3 + z * 2 ^ 4 + l * 2 ^ 5 + m * 2 ^ 6 + s * 2 ^ 7 + b * 2 ^ 9) * 2 ^ 1 + x) * 2 ^ 14 + (p + w * 2 ^ 8 + e * 2 ^ 13)
+    parts p w e x f c n v z l m s b = omega arith
+
+    small : (p w e : ℕ) → p < 256 → w < 32 → e < 2 → p + w * 2 ^ 8 + e * 2 ^ 13 < 2 ^ 14
+    small p w e hp hw he = omega arith
+
+    flags : (c z : ℕ) → c < 2 → z < 2 → max c z < 2
+    flags c z hc hz = omega arith
+
+pub compare-exact : (x : Inputs) → Sound x → x .b < 2 ^ 32 → x .q < 2 ^ 32 → lessBit (SUB x) ≡ signedLess (bitsOf x) (x .a) (x .b)
+unfolding difference
+compare-exact x h hb hq =
+    let w : 8 ≤ bitsOf x = selected-bounds (x .code) (h .code) .0 in
+    read-less (SUB x .status) (difference-kept x h hq (x .a) (x .b) 1 (x .b) hb .status)
+    ∙ less-bits (bitsOf x) (x .a) (x .b) (omega arith) (bits-le x h) hb
