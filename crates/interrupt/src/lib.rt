@@ -99,7 +99,7 @@ fn judge<'a>(main: &'a [u8], handler: &'a [u8], schedule: &[u16], lent: usize) -
 
 // ---- the one line of executions
 
-// The main words from `at` up to boundary `b`, then the whole handler.
+// The main words from `at` up to boundary `b`, then the n words of the handler.
 fn turn<'a>(
     main: &'a [u8],
     handler: &'a [u8],
@@ -107,14 +107,15 @@ fn turn<'a>(
     going: Going,
     at: usize,
     b: usize,
+    n: usize,
 ) -> Going
     requires { ⌜ Ready (now main) (length (now file)) × Ready (now handler) (length (now file)) × Good (going .status) ⌝ }
     requires { ⌜ (at ≤ b) × (b ≤ wordsOf (now main)) × (going .count + (b - at) + wordsOf (now handler) < 2 ^ 64) ⌝ }
+    requires { ⌜ n ≡ wordsOf (now handler) ⌝ }
     ensures { λ r. ⌜ Went (wordsFrom (now (main .entry)) at (b - at) ++ whole (now (handler .entry))) (now (file .entry)) going (now (file .exit)) r ⌝ }
 {
     let first = run::span(main, handler, Which::Main, file, going, at, b);
-    let end = sheet::words(handler);
-    run::span(main, handler, Which::Handler, file, first, 0, end)
+    run::span(main, handler, Which::Handler, file, first, 0, n)
 }
 
 // The main sheet from word 0 to its end, with the whole handler let in at each boundary.
@@ -129,12 +130,13 @@ fn serve<'a>(
     requires { ⌜ Rising (wordsOf (now main)) 0 (now schedule) × (going .count + length (lineup (now main) (now handler) 0 (now schedule)) < 2 ^ 64) ⌝ }
     ensures { λ r. ⌜ Went (lineup (now (main .entry)) (now (handler .entry)) 0 (now (schedule .entry))) (now (file .entry)) going (now (file .exit)) r ⌝ }
 {
+    let n = sheet::words(handler);
     let mut on = going;
     let mut at: usize = 0;
     let mut j: usize = 0;
     while j < schedule.len() {
         let b = schedule[j] as usize;
-        on = turn(main, handler, file, on, at, b);
+        on = turn(main, handler, file, on, at, b, n);
         at = b;
         j += 1;
     }

@@ -11,17 +11,16 @@ use Rattle.interrupt.proofs.turn.Tie as tie
 span-requires : tie.Need-span-requires
 span-requires c κs = search needs
 
-words-requires : tie.Need-words-requires
-words-requires c κs = search needs
-
 span-requires-2 : tie.Need-span-requires-2
 span-requires-2 c κs =
-    let a = c .before .before .before .before .before .before .before .before .before .args in (
-      (ready-size (now (a .handler)) (c .before .before .before .before .span .kept .1 .1 .1 .0) (c .before .before .before .before .before .before .before .before .before .pre .0 .1), c .before .before .before .before .span .ensures .status),
+    let b = c .before .before .before .before .before .before .before .before in
+    let a = b .args in
+    let s = c .before .before .before .span in (
+      (ready-size (now (a .handler)) (s .kept .1 .1 .1 .0) (b .pre .0 .1), s .ensures .status),
       (
         omega arith,
-        omega (arith, c .before .words .ensures),
-        omega (arith, c .before .before .before .before .before .before .before .before .before .pre .1, c .before .words .ensures, c .before .before .before .before .span .ensures .count, words-length (now (a .main)) (a .at) (a .b - a .at)),
+        omega (arith, b .pre .1 .1),
+        omega (arith, b .pre .1 .0, b .pre .1 .1, s .ensures .count, words-length (now (a .main)) (a .at) (a .b - a .at)),
       ),
     )
 
@@ -30,8 +29,9 @@ same-length c = search needs
 
 returns : tie.Need-returns
 returns c =
-    let a = c .before .before .before .before .before .before .before .before .before .before .before .before .args in
-    turn-done (now (a .main)) (now (a .handler)) (a .at) (a .b) _ _ _ _ _ _ _ (c .before .before .before .before .words .ensures) (c .before .before .before .before .before .before .before .span .ensures) (c .before .before .span2 .ensures)
+    let b = c .before .before .before .before .before .before .before .before .before .before .before in
+    let a = b .args in
+    turn-done (now (a .main)) (now (a .handler)) (a .at) (a .b) (a .n) _ _ _ _ _ _ (b .pre .1 .1) (c .before .before .before .before .before .before .span .ensures) (c .before .before .span2 .ensures)
 
 pub turn-spec : {M : Type 1} → statement M
-turn-spec = tie.close (tie.spec span-requires words-requires span-requires-2 same-length returns)
+turn-spec = tie.close (tie.spec span-requires span-requires-2 same-length returns)
