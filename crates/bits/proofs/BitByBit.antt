@@ -62,18 +62,19 @@ bit-ext (suc k) a b ha hb h =
     one-plus : (i : ℕ) → 1 + i ≡ suc i
     one-plus i = omega arith
 
+-- a complement by its parts: those of the high and of the low part
+pub complement-parts : (P M N y q r : ℕ) → N ≡ P * M → q * M + r ≡ y → r < M → q < P → (N - 1) - y ≡ ((P - 1) - q) * M + ((M - 1) - r)
+complement-parts P M N y q r e s l h =
+    let t : ((P - 1) - q) + (q + 1) ≡ P = omega arith in
+    let u : ((P - 1) - q) * M + (q * M + 1 * M) ≡ P * M = sym (ap (λ (x : ℕ). ((P - 1) - q) * M + x) (add-mul q 1 M)) ∙ sym (add-mul ((P - 1) - q) (q + 1) M) ∙ ap (λ (x : ℕ). x * M) t in
+    omega arith
+
 not-shr : (i j y : ℕ) → y < 2 ^ (j + i) → ((2 ^ (j + i) - 1) - y) / 2 ^ i ≡ (2 ^ j - 1) - y / 2 ^ i
 not-shr i j y h =
     let l : y % 2 ^ i < 2 ^ i = mod-lt y (pow-pos i) in
     let q : y / 2 ^ i < 2 ^ j = shr-lt j i h in
-    ap (λ (x : ℕ). x / 2 ^ i) (shape (2 ^ j) (2 ^ i) (2 ^ (j + i)) y (y / 2 ^ i) (y % 2 ^ i) (pow-add 2 j i) (split y i) l q)
+    ap (λ (x : ℕ). x / 2 ^ i) (complement-parts (2 ^ j) (2 ^ i) (2 ^ (j + i)) y (y / 2 ^ i) (y % 2 ^ i) (pow-add 2 j i) (split y i) l q)
     ∙ digits-div ((2 ^ j - 1) - y / 2 ^ i) (omega arith)
-  where
-    shape : (P M N y q r : ℕ) → N ≡ P * M → q * M + r ≡ y → r < M → q < P → (N - 1) - y ≡ ((P - 1) - q) * M + ((M - 1) - r)
-    shape P M N y q r e s l h =
-        let t : ((P - 1) - q) + (q + 1) ≡ P = omega arith in
-        let u : ((P - 1) - q) * M + (q * M + 1 * M) ≡ P * M = sym (ap (λ (x : ℕ). ((P - 1) - q) * M + x) (add-mul q 1 M)) ∙ sym (add-mul ((P - 1) - q) (q + 1) M) ∙ ap (λ (x : ℕ). x * M) t in
-        omega arith
 
 -- a bit of a complement
 pub bit-not : (i y : ℕ) → i < 32 → y < 2 ^ 32 → bitOf i (notOf y) ≡ 1 - bitOf i y

@@ -114,7 +114,7 @@ pub enum Decoded {
 }
 
 // One decision over the opcode numbers (document 01's form): the operation, or Opcode.
-pub fn decode(n: u32) -> Decoded
+fn decode(n: u32) -> Decoded
     ensures { λ r. ⌜ r ≡ decodedOf n ⌝ }
 {
     match n {
@@ -169,8 +169,8 @@ pub fn decode(n: u32) -> Decoded
     }
 }
 
-// What an operation does: each arm calls its page's function, or its family's. Public for the run above.
-pub fn perform(operation: Operation, x: Inputs) -> Outputs
+// What an operation does: each arm calls its page's function, or its family's. A run has a dispatch of its own (`dispatch::operate`).
+fn perform(operation: Operation, x: Inputs) -> Outputs
     requires { ⌜ Sound x ⌝ }
     ensures { λ r. ⌜ r ≡ meaningOf operation x ⌝ }
 {

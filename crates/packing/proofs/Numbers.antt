@@ -3,14 +3,15 @@
 use mathlib.Core.Path.{_≡_, refl, ap, _∙_, sym}
 use mathlib.Core.List.{List, [], _∷_, _++_, map}
 use mathlib.Core.Bool.{Bool, true, false, _||_, true≢false, or-assoc, or-false}
-use Prim.Native.Nat.{ℕ, zero, suc, _+_, _*_, _/_, _%_, _^_, _≤_, _<_}
+use Prim.Native.Nat.{ℕ, _+_, _-_, _*_, _/_, _%_, _^_, _≤_, _<_, zero-le}
 use native.Mathlib.Omega.{arith}
 use native.Mathlib.Decide.{decLt}
 use native.Mathlib.Nat.{mod-eq-of-lt}
 use borrow.Author.Tests.{ltb-false, lt-ltb, le-ltb}
 use lib.Dec.{eqb, ltb}
 use lib.Pow.{split, mod-pow-add}
-use lib.ListN.{length, getD, List·getD-eq-default, List·getD-map}
+use lib.ListN.{length, getD, take, drop, List·getD-eq-default, List·getD-map}
+use Rattle.bits.proofs.Rest.{run, run-at}
 use Rattle.chip.specs.declared.Word.{Word}
 use Rattle.chip.specs.Glossary.{Page, glossary, pageOf}
 use Rattle.chip.specs.Glossary.Page.{no-page}
@@ -22,18 +23,8 @@ use Rattle.packing.specs.Packing.{number6, fieldsOf, spareOf, packedNumb
 unfoldable pub pageless : ℕ → Bool
 pageless n = ltb 127 n || eqb (n / 2) 0x0f || eqb (n / 2) 0x26
 
--- the test of as many numbers as a list has pages, from k on
-abbrev tests : ℕ → List Page → List Bool
-tests k [] = []
-tests k (p ∷ ps) = pageless k ∷ tests (suc k) ps
-
-test-at : (k : ℕ) (ps : List Page) (i : ℕ) → i < length ps → getD (tests k ps) i true ≡ pageless (k + i)
-test-at k [] i h = absurd (omega arith)
-test-at k (p ∷ ps) zero h = ap pageless (omega arith)
-test-at k (p ∷ ps) (suc i) h = test-at (suc k) ps i (omega arith) ∙ ap pageless (omega arith)
-
 -- all 128 entries, by computation
-one-test : tests 0 glossary ≡ map noPage glossary
+one-test : take 128 (drop 0 (map noPage glossary)) ≡ run pageless 0 128
 unfolding pageless
 one-test = refl
 
@@ -44,8 +35,8 @@ page-test n = go (decLt n 128)
   where
     go : Dec (n < 128) → pageless n ≡ noPage (pageOf n)
     go (yes l) =
-        let e : 0 + n ≡ n = omega arith in
-        rw e at (sym (test-at 0 glossary n l)) ∙ ap (λ (ts : List Bool). getD ts n true) one-test ∙ List·getD-map noPage glossary n no-page
+        let e : n ≡ n - 0 = omega arith in
+        ap pageless e ∙ run-at pageless (map noPage glossary) true 0 128 one-test n zero-le (omega arith) ∙ List·getD-map noPage glossary n no-page
     go (no l) =
         let far : length glossary ≤ n = omega arith in
         rw (List·getD-eq-default glossary no-page far, lt-ltb 127 n (omega arith)) refl

@@ -9,6 +9,7 @@ use native.Mathlib.Omega.{arith}
 use lib.Pow.{pow-pos, pow-add, split, shr-lt, high, low, field, mod-mod-pow}
 use lib.ListN.{length}
 use Rattle.bits.specs.Bits.{selected, bitOf, signOf, merged, notOf}
+use Rattle.bits.proofs.BitByBit.{complement-parts}
 use Rattle.machine.specs.declared.Inputs.{Inputs}
 use Rattle.machine.specs.declared.Outputs.{Outputs}
 use Rattle.machine.specs.Inputs.{bitsOf}
@@ -48,14 +49,8 @@ not-cut n a h ha =
     let p : 2 ^ 32 ≡ 2 ^ (32 - n) * 2 ^ n = ap (λ (k : ℕ). 2 ^ k) (sym e) ∙ pow-add 2 (32 - n) n in
     let l : a % 2 ^ n < 2 ^ n = mod-lt a (pow-pos n) in
     let q : a / 2 ^ n < 2 ^ (32 - n) = shr-lt (32 - n) n (subst (λ (k : ℕ). a < 2 ^ k) (sym e) ha) in
-    ap (λ (v : ℕ). v % 2 ^ n) (shape (2 ^ (32 - n)) (2 ^ n) (2 ^ 32) a (a / 2 ^ n) (a % 2 ^ n) p (split a n) l q)
+    ap (λ (v : ℕ). v % 2 ^ n) (complement-parts (2 ^ (32 - n)) (2 ^ n) (2 ^ 32) a (a / 2 ^ n) (a % 2 ^ n) p (split a n) l q)
     ∙ low ((2 ^ (32 - n) - 1) - a / 2 ^ n) n (omega arith)
-  where
-    shape : (P M N y q r : ℕ) → N ≡ P * M → q * M + r ≡ y → r < M → q < P → (N - 1) - y ≡ ((P - 1) - q) * M + ((M - 1) - r)
-    shape P M N y q r e s l h =
-        let t : ((P - 1) - q) + (q + 1) ≡ P = omega arith in
-        let u : ((P - 1) - q) * M + (q * M + 1 * M) ≡ P * M = sym (ap (λ (x : ℕ). ((P - 1) - q) * M + x) (add-mul q 1 M)) ∙ sym (add-mul ((P - 1) - q) (q + 1) M) ∙ ap (λ (x : ℕ). x * M) t in
-        omega arith
 
 -- a sum, by the remainders of its parts
 pub cut-sum : (W x y c k : ℕ) → (x + y + c) % W ≡ (x % W + y % W + c + k * W) % W
