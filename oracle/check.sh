@@ -29,4 +29,6 @@ same() {
 echo "== data"
 same digest ../crates/digest/stdout
 same vectors ../crates/vectors/stdin
+./interrupts.sh --same
+echo "interrupts: same as ../crates/interrupts/stdin"
 echo "== all good"

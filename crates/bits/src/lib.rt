@@ -4,7 +4,7 @@ ghost use mathlib.Core.Path.{_≡_};
 ghost use Prim.Native.Nat.{ℕ, _+_, _-_, _*_, _/_, _%_, _^_, _<_, _≤_};
 ghost use Rattle.bits.specs.Bits.{selected, bitOf, signOf, zeroOf, merged, notOf, copies, carryOf, overflowOf, upBy, rotatedUp, fieldMask, maskedOf, putBit, priorityOf, parityOf};
 
-// How many bits a byte code selects (tables 3 and 5).
+// How many bits a byte code selects (tables 3 and 5): eight less than 32 for each byte missing, so that no test is needed for code 0.
 pub fn selected_bits(code: u32) -> u32
     requires { ⌜ code < 4 ⌝ }
     ensures { λ r. ⌜ (r ≡ selected code) × (8 ≤ r) × (r ≤ 32) ⌝ }
