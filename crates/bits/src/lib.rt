@@ -1,7 +1,7 @@
 // Leaves: what the pages do with the bits of one data word. Each hides its bit trick behind a promise in plain arithmetic, so that
 // nothing above uses a mask on data. They are public for the crates above; a `requires` keeps n, a count of selected bits, in range.
 ghost use mathlib.Core.Path.{_≡_};
-ghost use Prim.Native.Nat.{ℕ, _+_, _-_, _*_, _/_, _%_, _^_, _<_, _≤_};
+ghost use Prim.Native.Nat.{_+_, _-_, _*_, _%_, _^_, _<_, _≤_};
 ghost use Rattle.bits.specs.Bits.{selected, bitOf, signOf, zeroOf, merged, notOf, copies, carryOf, overflowOf, upBy, rotatedUp, fieldMask, maskedOf, putBit, priorityOf, parityOf};
 
 // How many bits a byte code selects (tables 3 and 5): eight less than 32 for each byte missing, so that no test is needed for code 0.
@@ -13,7 +13,7 @@ pub fn selected_bits(code: u32) -> u32
 }
 
 // The low n bits set.
-pub fn mask(n: u32) -> u32
+fn mask(n: u32) -> u32
     requires { ⌜ (1 ≤ n) × (n ≤ 32) ⌝ }
     ensures { λ r. ⌜ r ≡ 2 ^ n - 1 ⌝ }
 {

@@ -4,7 +4,6 @@ use machine::Outputs;
 use machine::Status;
 use reasons::Reason;
 ghost use mathlib.Core.Path.{_≡_};
-ghost use Prim.Native.Nat.{ℕ};
 ghost use Rattle.machine.specs.Inputs.{Sound};
 ghost use Rattle.chip.specs.Operations.{decodedOf, meaningOf};
 ghost use Rattle.chip.specs.declared.Decoded.the-variants.{Known};

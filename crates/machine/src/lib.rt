@@ -1,8 +1,8 @@
 // The machine: the status register, Q, and what stands at the chip when a word starts and when it ends.
 ghost use mathlib.Core.Path.{_≡_};
-ghost use Prim.Native.Nat.{ℕ, _+_, _*_, _/_, _%_, _^_, _<_, _≤_, max};
+ghost use Prim.Native.Nat.{_+_, _*_, _/_, _%_, _<_, _≤_, max};
 ghost use Rattle.machine.specs.Status.{workedOut, asRead, loaded, Good, freshOf};
-ghost use Rattle.machine.specs.Inputs.{bitsOf, positionOf, widthOf, carryIn, linkIn, fullWidth, leaving, result, Sound};
+ghost use Rattle.machine.specs.Inputs.{bitsOf, positionOf, widthOf, carryIn, linkIn, fullWidth, result, Sound};
 
 // The status register as fields, without bits 13, 14, 15 and 23. Each flag is 0 or 1. Their order is for speed alone: with it no operation
 // leaves two fields by themselves between others that it touches. The compiler would copy such a pair as one number of 64 bits, in that
@@ -99,7 +99,7 @@ impl Status {
     }
 
     // Bits 13 to 15 as one number, lowest first.
-    pub fn work_out(self) -> u32
+    fn work_out(self) -> u32
         requires { ⌜ Good self ⌝ }
         ensures { λ r. ⌜ r ≡ workedOut self ⌝ }
     {

@@ -4,8 +4,6 @@ use machine::Inputs;
 use machine::Outputs;
 use machine::Status;
 ghost use mathlib.Core.Path.{_≡_};
-ghost use Prim.Native.Nat.{ℕ, _<_, _≤_};
-ghost use lib.Bits.{bitAnd, bitOr, bitXor};
 ghost use Rattle.bits.specs.Bits.{notOf, merged};
 ghost use Rattle.machine.specs.Status.{asRead};
 ghost use Rattle.machine.specs.Inputs.{Sound, bitsOf, result};

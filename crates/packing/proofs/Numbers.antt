@@ -10,10 +10,10 @@ use native.Mathlib.Nat.{mod-eq-of-lt}
 use borrow.Author.Tests.{ltb-false, lt-ltb, le-ltb}
 use lib.Dec.{eqb, ltb}
 use lib.Pow.{split, mod-pow-add}
-use lib.ListN.{length, getD, take, drop, List·getD-eq-default, List·getD-map}
+use lib.ListN.{length, take, drop, List·getD-eq-default, List·getD-map}
 use Rattle.bits.proofs.Rest.{run, run-at}
 use Rattle.chip.specs.declared.Word.{Word}
-use Rattle.chip.specs.Glossary.{Page, glossary, pageOf}
+use Rattle.chip.specs.Glossary.{glossary, pageOf}
 use Rattle.chip.specs.Glossary.Page.{no-page}
 use Rattle.chip.specs.Single.{noPage, outOfRange}
 use Rattle.packing.specs.Packing.{number6, fieldsOf, spareOf, packedNumber, bytes6, lacksPage, some, named, tooLarge, InRange}

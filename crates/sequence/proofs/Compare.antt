@@ -2,7 +2,7 @@
 -- rest is a table of two sign bits and that. Assumes nothing.
 use mathlib.Core.Path.{_≡_, refl, sym, ap, ap₂, _∙_, subst}
 use mathlib.Core.Bool.{Bool, true, false}
-use Prim.Native.Nat.{ℕ, zero, suc, _+_, _-_, _*_, _/_, _%_, _^_, _≤_, _<_, max}
+use Prim.Native.Nat.{ℕ, suc, _+_, _-_, _*_, _/_, _%_, _^_, _≤_, _<_, max}
 use native.Mathlib.Nat.{mod-lt, mod-eq-of-lt, add-mod-right}
 use native.Mathlib.Omega.{arith}
 use lib.Dec.{ltb, leb, lit<}
@@ -14,7 +14,7 @@ use Rattle.bits.proofs.BitByBit.{bit-lt, by-flag, bit-not}
 use Rattle.bits.proofs.Adder.{full-sum, full-carry}
 use Rattle.machine.specs.declared.Status.{Status}
 use Rattle.machine.specs.declared.Inputs.{Inputs}
-use Rattle.machine.specs.Status.{workedOut, asRead, Good}
+use Rattle.machine.specs.Status.{asRead, Good}
 use Rattle.machine.specs.Inputs.{bitsOf, Sound}
 use Rattle.bits.proofs.Bounds.{selected-bounds}
 use Rattle.machine.proofs.Kept.{bits-le}

@@ -4,7 +4,7 @@ use mathlib.Core.Path.{_≡_, refl, sym, ap, _∙_, subst}
 use mathlib.Core.Logic.{_≢_}
 use mathlib.Core.List.{List}
 use Prim.Native.Nat.{ℕ, zero, suc, _+_, _-_, _*_, _/_, _%_, _^_, _≤_, _<_}
-use native.Mathlib.Nat.{mod-lt, add-mul, mul-div-mul-left, mul-add-mod-self-right, add-mul-mod-self-right, div-add-mod'}
+use native.Mathlib.Nat.{mod-lt, mul-div-mul-left, mul-add-mod-self-right, add-mul-mod-self-right, div-add-mod'}
 use native.Mathlib.Omega.{arith}
 use lib.Pow.{pow-pos, pow-add, split, shr-lt, high, low, field, mod-mod-pow}
 use lib.ListN.{length}
