@@ -9,7 +9,7 @@ use borrow.Author.Tests.{ne-eqb}
 use lib.Pow.{pow-pos, pow-lt, pow-add, split, field, high, ones-split, ones-lt, shr-mod, shr-shr, shr-lt, shl-shr, mod-pow-add, mod-mod-pow}
 use lib.Bits.{bitAnd, bitOr, and-step, or-step, or-zero-r, and-mask, and-high, or-block, or-shifted, or-shifted-r}
 use lib.Count.{leadingZeros, leading-length, leading-unique}
-use Rattle.bits.specs.Bits.{choose, flag, merged, carryOf, zeroOf, bitOf, rotatedUp, putBit}
+use Rattle.bits.specs.Bits.{bytes4, choose, flag, merged, carryOf, zeroOf, bitOf, rotatedUp, putBit}
 
 -- all ones, shifted down so that n are left
 pub ones-shr : (n : ℕ) → n ≤ 32 → (2 ^ 32 - 1) / 2 ^ (32 - n) ≡ 2 ^ n - 1
@@ -29,6 +29,11 @@ and-not-mask n x h hx =
 pub merge-law : (n s u : ℕ) → n ≤ 32 → u < 2 ^ 32 → bitOr (bitAnd s (2 ^ n - 1)) (bitAnd u ((2 ^ 32 - 1) - (2 ^ n - 1))) ≡ merged n s u
 unfolding merged
 merge-law n s u h hu = ap₂ bitOr (and-mask s n) (and-not-mask n u h hu) ∙ or-shifted-r (u / 2 ^ n) n (s % 2 ^ n) (mod-lt s (pow-pos n))
+
+-- all four bytes selected: the whole of s
+pub merged-whole : (s u : ℕ) → s < 2 ^ 32 → u < 2 ^ 32 → merged 32 s u ≡ s
+unfolding merged
+merged-whole s u hs hu = omega arith
 
 -- what is carried out of a sum of two numbers of n bits and a bit is a bit
 pub carry-lt : (n a b c : ℕ) → c < 2 → carryOf n a b c < 2
@@ -180,3 +185,25 @@ choose-zero f a b e = ap (λ (k : ℕ). choose k a b) e
 pub choose-one {ℓ} : {A : Type ℓ} (f : ℕ) (a b : A) → (f ≡ 0 → ⊥) → choose f a b ≡ b
 choose-one zero a b h = absurd (h refl)
 choose-one (suc k) a b h = refl
+
+-- ---- four bytes, as the code reads them
+-- the first lowest
+abbrev low4 : ℕ → ℕ → ℕ → ℕ → ℕ
+low4 b0 b1 b2 b3 = b0 + b1 * 2 ^ 8 + b2 * 2 ^ 16 + b3 * 2 ^ 24
+
+-- turned, the first stands highest
+pub turned-low : (b0 b1 b2 b3 v : ℕ) → b0 < 256 → b1 < 256 → b2 < 256 → b3 < 256 → v ≡ low4 b0 b1 b2 b3
+    → bytes4 (v % 2 ^ 8) (v / 2 ^ 8 % 2 ^ 8) (v / 2 ^ 16 % 2 ^ 8) (v / 2 ^ 24) ≡ bytes4 b0 b1 b2 b3
+turned-low b0 b1 b2 b3 v h0 h1 h2 h3 e = rw (e, e0, e1, e2, e3) refl
+  where
+    e0 : low4 b0 b1 b2 b3 % 2 ^ 8 ≡ b0
+    e0 = omega arith
+
+    e1 : low4 b0 b1 b2 b3 / 2 ^ 8 % 2 ^ 8 ≡ b1
+    e1 = omega arith
+
+    e2 : low4 b0 b1 b2 b3 / 2 ^ 16 % 2 ^ 8 ≡ b2
+    e2 = omega arith
+
+    e3 : low4 b0 b1 b2 b3 / 2 ^ 24 ≡ b3
+    e3 = omega arith

@@ -45,6 +45,10 @@ zeroOf n x = flag (eqb (x % 2 ^ n) 0)
 unfoldable pub merged : ℕ → ℕ → ℕ → ℕ
 merged n s u = u / 2 ^ n * 2 ^ n + s % 2 ^ n
 
+-- four bytes as one word, the first highest
+abbrev pub bytes4 : ℕ → ℕ → ℕ → ℕ → ℕ
+bytes4 b0 b1 b2 b3 = b0 * 2 ^ 24 + b1 * 2 ^ 16 + b2 * 2 ^ 8 + b3
+
 -- the one's complement of a word
 abbrev pub notOf : ℕ → ℕ
 notOf x = (2 ^ 32 - 1) - x

@@ -1,8 +1,8 @@
 // Leaves: what the pages do with the bits of one data word. Each hides its bit trick behind a promise in plain arithmetic, so that
 // nothing above uses a mask on data. They are public for the crates above; a `requires` keeps n, a count of selected bits, in range.
 ghost use mathlib.Core.Path.{_≡_};
-ghost use Prim.Native.Nat.{_+_, _-_, _*_, _%_, _^_, _<_, _≤_};
-ghost use Rattle.bits.specs.Bits.{selected, bitOf, signOf, zeroOf, merged, notOf, copies, carryOf, overflowOf, upBy, rotatedUp, fieldMask, maskedOf, putBit, priorityOf, parityOf};
+ghost use Prim.Native.Nat.{_+_, _-_, _*_, _/_, _%_, _^_, _<_, _≤_};
+ghost use Rattle.bits.specs.Bits.{bytes4, selected, bitOf, signOf, zeroOf, merged, notOf, copies, carryOf, overflowOf, upBy, rotatedUp, fieldMask, maskedOf, putBit, priorityOf, parityOf};
 
 // How many bits a byte code selects (tables 3 and 5): eight less than 32 for each byte missing, so that no test is needed for code 0.
 pub fn selected_bits(code: u32) -> u32
@@ -175,4 +175,25 @@ pub fn parity(x: u32) -> u32
         + u32::count_ones((x >> 16) % 256) % 2 * 4
         + u32::count_ones((x >> 8) % 256) % 2 * 2
         + u32::count_ones(x % 256) % 2
+}
+
+// Four bytes as one number, the first lowest: one load on a little-endian machine.
+fn low_first(b0: u8, b1: u8, b2: u8, b3: u8) -> u32
+    ensures { λ r. ⌜ r ≡ b0 + b1 * 2 ^ 8 + b2 * 2 ^ 16 + b3 * 2 ^ 24 ⌝ }
+{
+    b0 as u32 + b1 as u32 * 0x100 + b2 as u32 * 0x1_0000 + b3 as u32 * 0x100_0000
+}
+
+// The four bytes of a number the other way round: one instruction.
+fn turned(v: u32) -> u32
+    ensures { λ r. ⌜ r ≡ bytes4 (v % 2 ^ 8) (v / 2 ^ 8 % 2 ^ 8) (v / 2 ^ 16 % 2 ^ 8) (v / 2 ^ 24) ⌝ }
+{
+    v % 256 * 0x100_0000 + v / 0x100 % 256 * 0x1_0000 + v / 0x1_0000 % 256 * 0x100 + v / 0x100_0000
+}
+
+// Four bytes as one number, the first highest, as sheets and registers are written: one load and one turn.
+pub fn four_bytes(b0: u8, b1: u8, b2: u8, b3: u8) -> u32
+    ensures { λ r. ⌜ r ≡ bytes4 b0 b1 b2 b3 ⌝ }
+{
+    turned(low_first(b0, b1, b2, b3))
 }

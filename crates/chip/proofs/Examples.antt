@@ -15,7 +15,7 @@ use Rattle.divide.specs.Divide.{UDIVFIRST, UDIVSTEP, UDIVLAST, REMCORR}
 use Rattle.fields.specs.Field.{inField, PASS-MASK}
 use Rattle.chip.specs.declared.Word.{Word}
 use Rattle.chip.specs.Glossary.{performOf}
-use Rattle.chip.specs.Lists.{State, readAt, storeAt, stepOf, execs}
+use Rattle.chip.specs.Lists.{State, state, readAt, storeAt, stepOf, execs}
 
 -- a word: opcode, byte code, position, width, registers A and B, and Y, which is written; no switch
 abbrev word : ℕ → ℕ → ℕ → ℕ → ℕ → ℕ → ℕ → Word
@@ -28,7 +28,7 @@ times (suc k) w = w ∷ times k w
 
 -- a list of words on three registers, with the given values in the first two and in Q, and the status register at zero
 abbrev after : List Word → ℕ → ℕ → ℕ → State
-after ws a b q = execs ws (record { file = a ∷ b ∷ 0 ∷ []; q = q; status = loaded 0 })
+after ws a b q = execs ws (state (a ∷ b ∷ 0 ∷ []) (record { q = q; status = loaded 0 }))
 
 -- a field operation on A and B, Y to register 2
 abbrev field : ℕ → ℕ → ℕ → ℕ → ℕ → State
@@ -76,13 +76,13 @@ lettered =
     ∷ shows (yOf (field 0x7f 4 0 0 0)) 0xffff_fff0
     -- d: NOT-A
     ∷ shows (yOf (bytes 0x08 2 0x1234_5678 0)) 0x1234_a987
-    ∷ shows (bytes 0x08 2 0x1234_5678 0 .status .n) 1
-    ∷ shows (bytes 0x08 2 0x1234_5678 0 .status .z) 0
+    ∷ shows (bytes 0x08 2 0x1234_5678 0 .core .status .n) 1
+    ∷ shows (bytes 0x08 2 0x1234_5678 0 .core .status .z) 0
     -- e: prioritize
-    ∷ shows (bytes 0x0c 2 0x0000_8000 0 .status .position) 0
-    ∷ shows (bytes 0x0c 2 0x0000_8000 0 .status .z) 0
-    ∷ shows (bytes 0x0c 2 0x0001_0000 0 .status .position) 0
-    ∷ shows (bytes 0x0c 2 0x0001_0000 0 .status .z) 1
+    ∷ shows (bytes 0x0c 2 0x0000_8000 0 .core .status .position) 0
+    ∷ shows (bytes 0x0c 2 0x0000_8000 0 .core .status .z) 0
+    ∷ shows (bytes 0x0c 2 0x0001_0000 0 .core .status .position) 0
+    ∷ shows (bytes 0x0c 2 0x0001_0000 0 .core .status .z) 1
     -- f: NOTF-A
     ∷ shows (yOf (field 0x70 0x02 0 0x1234_5678 0x9abc_def0)) 0xb72e_a61c
     ∷ shows (yOf (field 0x70 0x3e 0 0x1234_5678 0x9abc_def0)) 0xfb72_ea61
@@ -92,21 +92,21 @@ lettered =
     ∷ shows (yOf (after status 0xffff_ffff 0 0)) 0xff7f_bfff
     -- i, j: multiply
     ∷ shows (bOf (after (multiply 1 3) 0xff 0 0xff)) 0xfe
-    ∷ shows (after (multiply 1 3) 0xff 0 0xff .q) 0x01
+    ∷ shows (after (multiply 1 3) 0xff 0 0xff .core .q) 0x01
     ∷ shows (bOf (after (multiply 0 15) 0xffff_ffff 0 0xffff_ffff)) 0xffff_fffe
-    ∷ shows (after (multiply 0 15) 0xffff_ffff 0 0xffff_ffff .q) 0x0000_0001
+    ∷ shows (after (multiply 0 15) 0xffff_ffff 0 0xffff_ffff .core .q) 0x0000_0001
     -- k: divide
-    ∷ shows (after (divide 1 7) 0x10 0 0xff .q) 0x0f
+    ∷ shows (after (divide 1 7) 0x10 0 0xff .core .q) 0x0f
     ∷ shows (bOf (after (divide 1 7) 0x10 0 0xff)) 0x0f
     -- l: decimal 55 + 55, before and after the correction
     ∷ shows (yOf (bytes 0x42 1 0x55 0x55)) 0xaa
     ∷ shows (yOf (after decimal 0x55 0x55 0)) 0x10
-    ∷ shows (after decimal 0x55 0x55 0 .status .c) 1
+    ∷ shows (after decimal 0x55 0x55 0 .core .status .c) 1
     -- m: decimal 95 + 05
     ∷ shows (yOf (bytes 0x42 1 0x95 0x05)) 0x9a
     ∷ shows (yOf (after decimal 0x95 0x05 0)) 0x00
-    ∷ shows (after decimal 0x95 0x05 0 .status .c) 1
-    ∷ shows (after decimal 0x95 0x05 0 .status .z) 1
+    ∷ shows (after decimal 0x95 0x05 0 .core .status .c) 1
+    ∷ shows (after decimal 0x95 0x05 0 .core .status .z) 1
     ∷ []
 
 abbrev pub allGiven : List Example → List ℕ

@@ -1,14 +1,9 @@
--- What the layers above may use of the whole-word definition: what a handler's fixed words do, that a status saved and loaded again is the same,
--- that every word leaves all in range, and how registers are read and stored. Assumes nothing.
-use mathlib.Core.Path.{_≡_, sym, ap, _∙_}
-use mathlib.Core.List.{List}
-use Prim.Native.Nat.{ℕ, _^_, _<_, _≤_}
-use native.Mathlib.Nat.{mod-eq-of-lt, div-eq-of-lt}
-use native.Mathlib.Decide.{ℕ-discrete, decLt}
-use native.Mathlib.Omega.{arith}
-use lib.ListN.{length, length-set}
-use lib.Seq.{getD-set-same, getD-set-other, set-out}
+-- What the layers above may use of the whole-word definition: what a handler's fixed words do, and that every word leaves all in range.
+-- Assumes nothing.
+use mathlib.Core.Path.{_≡_, ap, _∙_}
+use Prim.Native.Nat.{ℕ, _^_, _<_}
 use Rattle.bits.specs.Bits.{selected, merged}
+use Rattle.bits.proofs.Laws.{merged-whole}
 use Rattle.machine.specs.declared.Status.{Status}
 use Rattle.machine.specs.declared.Inputs.{Inputs}
 use Rattle.machine.specs.Status.{Good, asRead, loaded}
@@ -16,14 +11,9 @@ use Rattle.machine.specs.Inputs.{Sound, Kept, bitsOf, leaving}
 use Rattle.machine.proofs.Round.{loaded-read, read-lt}
 use Rattle.movement.specs.DataMovement.{PASS-STAT, PASS-Q, loadQ, loadStatus}
 use Rattle.chip.specs.Glossary.{performOf}
-use Rattle.chip.specs.Lists.{readAt, storeAt}
 use Rattle.chip.proofs.Kept.{perform-kept}
 
--- all four bytes selected: the whole of s
-merged-whole : (s u : ℕ) → s < 2 ^ 32 → u < 2 ^ 32 → merged 32 s u ≡ s
-unfolding merged
-merged-whole s u hs hu = rw (div-eq-of-lt hu, mod-eq-of-lt hs) (omega arith)
-
+-- all four bytes selected
 whole : (x : Inputs) (s u : ℕ) → x .code ≡ 0 → s < 2 ^ 32 → u < 2 ^ 32 → merged (bitsOf x) s u ≡ s
 whole x s u e hs hu = ap (λ (k : ℕ). merged (selected k) s u) e ∙ merged-whole s u hs hu
 
@@ -55,39 +45,3 @@ saved-loaded = loaded-read
 -- every word leaves all in range
 pub in-range : (n : ℕ) (x : Inputs) → Sound x → x .a < 2 ^ 32 → x .b < 2 ^ 32 → x .q < 2 ^ 32 → Kept (performOf n x)
 in-range n x h ha hb hq = perform-kept x h ha hb hq n
-
--- ---- registers
-pub store-length : (file : List ℕ) (r y : ℕ) → length (storeAt file r y) ≡ length file
-unfolding storeAt
-store-length file r y = length-set file r y
-
-pub read-same : (file : List ℕ) (r y : ℕ) → r < length file → readAt (storeAt file r y) r ≡ y
-unfolding readAt storeAt
-read-same file r y h = getD-set-same file r y 0 h
-
-pub read-other : (file : List ℕ) (r y k : ℕ) → (k ≡ r → ⊥) → readAt (storeAt file r y) k ≡ readAt file k
-unfolding readAt storeAt
-read-other file r y k h = getD-set-other file r k y 0 h
-
--- a register that no file holds
-pub store-out : (file : List ℕ) (r y : ℕ) → length file ≤ r → storeAt file r y ≡ file
-unfolding storeAt
-store-out file r y h = set-out file r y h
-
--- the same store to two files that agree on a register
-pub store-agree : (f g : List ℕ) (r y k : ℕ) → length f ≡ length g → readAt f k ≡ readAt g k → readAt (storeAt f r y) k ≡ readAt (storeAt g r y) k
-store-agree f g r y k n e = go (ℕ-discrete k r) (decLt r (length f))
-  where
-    go : Dec (k ≡ r) → Dec (r < length f) → readAt (storeAt f r y) k ≡ readAt (storeAt g r y) k
-    go (yes h) (yes i) = rw h (read-same f r y i ∙ sym (read-same g r y (omega arith)))
-    go (yes h) (no i) = rw (store-out f r y (omega arith), store-out g r y (omega arith)) e
-    go (no h) i = read-other f r y k h ∙ e ∙ sym (read-other g r y k h)
-
--- registers stay in range
-pub store-small : (file : List ℕ) (r y k : ℕ) → ((i : ℕ) → readAt file i < 2 ^ 32) → y < 2 ^ 32 → readAt (storeAt file r y) k < 2 ^ 32
-store-small file r y k f h = go (ℕ-discrete k r) (decLt r (length file))
-  where
-    go : Dec (k ≡ r) → Dec (r < length file) → readAt (storeAt file r y) k < 2 ^ 32
-    go (yes e) (yes i) = rw (e, read-same file r y i) h
-    go (yes e) (no i) = rw (store-out file r y (omega arith)) (f k)
-    go (no e) i = rw (read-other file r y k e) (f k)

@@ -3,4 +3,6 @@ pub mod Range
 pub mod Kept
 pub mod Single
 pub mod Facts
+pub mod Files
+pub mod Words
 pub mod Examples

@@ -2,6 +2,7 @@
 use mathlib.Core.Path.{_≡_, refl, sym, ap, ap₂, _∙_}
 use mathlib.Core.List.{[], _∷_}
 use mathlib.Core.Bool.{Bool, true, false}
+use Rattle.machine.specs.Core.{shownBy}
 use Rattle.reasons.specs.declared.Reason.the-variants.{Opcode as NoOpcode, Inputs as BadInputs}
 use Rattle.reasons.specs.Reasons.{_gives_at_, firstOf}
 use Rattle.chip.specs.declared.SingleWord.{SingleWord}
@@ -36,7 +37,7 @@ module _ (s : SingleWord) where
 
   pub answered : (o : Operation) → decodedOf (s .opcode) ≡ Known o
       → outOfRange (s .code) (s .position) (s .width) (s .select) (s .carry) (s .link) (s .borrow) ≡ false
-      → performed (performOf (s .opcode) (singleInputs s)) ≡ singleOf s
+      → performed (singleInputs s) (shownBy (performOf (s .opcode) (singleInputs s))) ≡ singleOf s
   unfolding by-rows tested
   answered o e t = sym (ap₂ by-rows (page-decoded (s .opcode) ∙ ap pageFor e) t) ∙ from-rows
 

@@ -3,9 +3,10 @@ use mathlib.Core.List.{List, [], _∷_}
 use Prim.Native.Nat.{ℕ}
 use lib.ListN.{getD, set}
 use Rattle.bits.specs.Bits.{choose}
-use Rattle.machine.specs.declared.Status.{Status}
+use Rattle.machine.specs.declared.Core.{Core}
 use Rattle.machine.specs.declared.Inputs.{Inputs}
-use Rattle.machine.specs.declared.Outputs.{Outputs}
+use Rattle.machine.specs.declared.Shown.{Shown}
+use Rattle.machine.specs.Core.{shownBy}
 use Rattle.chip.specs.declared.Word.{Word}
 use Rattle.chip.specs.Glossary.{performOf}
 
@@ -16,11 +17,13 @@ readAt file r = getD file r 0
 unfoldable pub storeAt : List ℕ → ℕ → ℕ → List ℕ
 storeAt file r y = set file r y
 
--- all that a word reads and writes: the file of registers, Q and the status register
+-- all that a word reads and writes: the file of registers, and what the chip keeps
 pub record State : Type 0 where
   pub file : List ℕ
-  pub q : ℕ
-  pub status : Status
+  pub core : Core
+
+abbrev pub state : List ℕ → Core → State
+state file core = record { file = file; core = core }
 
 -- what stands at the chip for a word: its fields, the registers that it names as A and B, Q and the status register
 abbrev pub inputsOf : Word → State → Inputs
@@ -35,19 +38,21 @@ inputsOf w t =
       borrow = w .borrow;
       a = readAt (t .file) (w .a);
       b = readAt (t .file) (w .b);
-      q = t .q;
-      status = t .status;
+      q = t .core .q;
+      status = t .core .status;
     }
 
 -- Y is stored only when write is 1
 abbrev pub written : Word → ℕ → List ℕ → List ℕ
 written w y file = choose (w .write) file (storeAt file (w .y) y)
 
+-- what a word shows: Y, and the core after it
+abbrev pub shownOf : Word → State → Shown
+shownOf w t = shownBy (performOf (w .opcode) (inputsOf w t))
+
 -- one word
 unfoldable pub stepOf : Word → State → State
-stepOf w t =
-    let o : Outputs = performOf (w .opcode) (inputsOf w t) in
-    record { file = written w (o .y) (t .file); q = o .q; status = o .status }
+stepOf w t = state (written w (shownOf w t .y) (t .file)) (shownOf w t .core)
 
 -- words one after another
 unfoldable pub execs : List Word → State → State

@@ -5,8 +5,10 @@ use Prim.Native.Nat.{ℕ}
 use lib.Dec.{ltb}
 use Rattle.bits.specs.Bits.{parityOf}
 use Rattle.machine.specs.declared.Inputs.{Inputs}
-use Rattle.machine.specs.declared.Outputs.{Outputs}
-use Rattle.machine.specs.Status.{asRead, loaded}
+use Rattle.machine.specs.declared.Core.{Core}
+use Rattle.machine.specs.declared.Shown.{Shown}
+use Rattle.machine.specs.Inputs.{readBy}
+use Rattle.machine.specs.Core.{taken, shownBy}
 use Rattle.reasons.specs.declared.Reason.{Reason}
 use Rattle.reasons.specs.declared.Reason.the-variants.{Done, Opcode, Inputs as InputsReason}
 use Rattle.reasons.specs.declared.Check.{Check}
@@ -36,6 +38,7 @@ singleRows s =
 -- bits 13, 14, 15 and 23 of the status handed in are ignored
 abbrev pub singleInputs : SingleWord → Inputs
 singleInputs s =
+    let core : Core = taken (record { q = s .q; status = s .status }) in
     record {
       code = s .code;
       position = s .position;
@@ -46,20 +49,21 @@ singleInputs s =
       borrow = s .borrow;
       a = s .a;
       b = s .b;
-      q = s .q;
-      status = loaded (s .status);
+      q = core .q;
+      status = core .status;
     }
 
--- Y, its parity, Q and the status as it is read
-abbrev pub performed : Outputs → SingleAnswer
-performed o = record { reason = Done; place = 0; y = o .y; parity = parityOf (o .y); q = o .q; status = asRead (o .status) }
+-- Y, its parity, Q and the status as the word reads it
+abbrev pub performed : Inputs → Shown → SingleAnswer
+performed x s =
+    record { reason = Done; place = 0; y = s .y; parity = parityOf (s .y); q = s .core .q; status = readBy x (s .core .status) }
 
 -- a refusal repeats the Q and status handed in, bit for bit, with Y and parity 0
 abbrev pub refusedAs : Reason → SingleWord → SingleAnswer
 refusedAs r s = record { reason = r; place = 0; y = 0; parity = 0; q = s .q; status = s .status }
 
 abbrev pub unless : Check → SingleWord → SingleAnswer
-unless Good s = performed (performOf (s .opcode) (singleInputs s))
+unless Good s = performed (singleInputs s) (shownBy (performOf (s .opcode) (singleInputs s)))
 unless (Bad r p) s = refusedAs r s
 
 unfoldable pub singleOf : SingleWord → SingleAnswer

@@ -1,10 +1,11 @@
 // The chip: one decision over the 128 opcode numbers, what each operation does, and the single word as an entry point.
 use machine::Inputs;
+use machine::Machine;
 use machine::Outputs;
-use machine::Status;
 use reasons::Reason;
 ghost use mathlib.Core.Path.{_≡_};
 ghost use Rattle.machine.specs.Inputs.{Sound};
+ghost use Rattle.machine.specs.Core.{shownBy};
 ghost use Rattle.chip.specs.Operations.{decodedOf, meaningOf};
 ghost use Rattle.chip.specs.declared.Decoded.the-variants.{Known};
 ghost use Rattle.chip.specs.Glossary.{performOf};
@@ -255,6 +256,12 @@ fn refuse(s: SingleWord, reason: Reason) -> SingleAnswer
 fn inputs(s: SingleWord) -> Inputs
     ensures { λ r. ⌜ r ≡ singleInputs s ⌝ }
 {
+    let machine = Machine {
+        q: s.q,
+        status: s.status,
+    };
+    let core = machine.enter();
+    let status = core.status;
     Inputs {
         code: s.code,
         position: s.position,
@@ -265,25 +272,27 @@ fn inputs(s: SingleWord) -> Inputs
         borrow: s.borrow,
         a: s.a,
         b: s.b,
-        q: s.q,
-        status: Status::load(s.status),
+        q: core.q,
+        status,
     }
 }
 
 // The answer of a word whose opcode has a page and whose inputs are in range.
 fn answer(operation: Operation, s: SingleWord) -> SingleAnswer
     requires { ⌜ (decodedOf (s .opcode) ≡ Known operation) × Sound (singleInputs s) ⌝ }
-    ensures { λ r. ⌜ r ≡ performed (performOf (s .opcode) (singleInputs s)) ⌝ }
+    ensures { λ r. ⌜ r ≡ performed (singleInputs s) (shownBy (performOf (s .opcode) (singleInputs s))) ⌝ }
 {
-    let o = perform(operation, inputs(s));
-    let status = o.status;
+    let x = inputs(s);
+    let shown = perform(operation, x).shown();
+    let core = shown.core;
+    let status = core.status;
     SingleAnswer {
         reason: Reason::Done,
         place: 0,
-        y: o.y,
-        parity: bits::parity(o.y),
-        q: o.q,
-        status: status.read(),
+        y: shown.y,
+        parity: bits::parity(shown.y),
+        q: core.q,
+        status: x.read(status),
     }
 }
 

@@ -4,8 +4,8 @@ use Rattle.bits.specs.Bits.{xor, bitOf, signOf, zeroOf, putBit}
 use Rattle.machine.specs.declared.Status.{Status}
 use Rattle.machine.specs.declared.Inputs.{Inputs}
 use Rattle.machine.specs.declared.Outputs.{Outputs}
-use Rattle.machine.specs.Status.{asRead, loaded, withN, withZ, withL}
-use Rattle.machine.specs.Inputs.{leaving}
+use Rattle.machine.specs.Status.{loaded, withN, withZ, withL}
+use Rattle.machine.specs.Inputs.{readBy, leaving}
 use Rattle.fields.specs.Position.{placeOf, sixthOf}
 
 -- The sign bit of position, if true, inverts the extracted bit.
@@ -50,8 +50,8 @@ RSTBIT-B x = putInto x (x .b) 0 1
 -- the Y bus.
 unfoldable pub putStatus : Inputs → ℕ → Outputs
 putStatus x f =
-    let s : Status = loaded (putBit (placeOf x) f (asRead (x .status))) in
-    leaving x (asRead s) s
+    let s : Status = loaded (putBit (placeOf x) f (readBy x (x .status))) in
+    leaving x (readBy x s) s
 
 -- 6C
 abbrev pub SETBIT-STAT : Inputs → Outputs
@@ -64,5 +64,5 @@ RSTBIT-STAT x = putStatus x 0
 -- 7E. As EXTBIT, of the status register as it is read; no bit of it other than L changes.
 unfoldable pub EXTBIT-STAT : Inputs → Outputs
 EXTBIT-STAT x =
-    let f : ℕ = extracted x (asRead (x .status)) in
+    let f : ℕ = extracted x (readBy x (x .status)) in
     leaving x f (withL f (x .status))

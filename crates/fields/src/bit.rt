@@ -4,8 +4,8 @@ use machine::Inputs;
 use machine::Outputs;
 use machine::Status;
 ghost use mathlib.Core.Path.{_≡_};
-ghost use Rattle.machine.specs.Status.{asRead, loaded};
-ghost use Rattle.machine.specs.Inputs.{Sound, leaving};
+ghost use Rattle.machine.specs.Status.{loaded};
+ghost use Rattle.machine.specs.Inputs.{Sound, readBy, leaving};
 ghost use Rattle.fields.specs.BitManipulation.{extracted, extractBit, putInto, putStatus, EXTBIT-STAT};
 
 // The bit of s that the low five position bits name, inverted by the sixth.
@@ -39,7 +39,7 @@ pub fn extract_status(x: Inputs) -> Outputs
     ensures { λ r. ⌜ r ≡ EXTBIT-STAT x ⌝ }
 {
     let mut status = x.status;
-    let f = extracted(x, status.read());
+    let f = extracted(x, x.read(status));
     status.l = f;
     Outputs {
         y: f,
@@ -66,11 +66,11 @@ pub fn reset(x: Inputs, s: u32) -> Outputs
 
 // A word put into the status register, which drops bits 13, 14, 15 and 23; Y shows the register as it is then read.
 fn put_status(x: Inputs, word: u32) -> Outputs
-    ensures { λ r. ⌜ r ≡ leaving x (asRead (loaded word)) (loaded word) ⌝ }
+    ensures { λ r. ⌜ r ≡ leaving x (readBy x (loaded word)) (loaded word) ⌝ }
 {
     let status = Status::load(word);
     Outputs {
-        y: status.read(),
+        y: x.read(status),
         q: x.q,
         status,
     }
@@ -82,7 +82,7 @@ pub fn set_status(x: Inputs) -> Outputs
     ensures { λ r. ⌜ r ≡ putStatus x 1 ⌝ }
 {
     let status = x.status;
-    put_status(x, bits::set_bit(position::place(x), status.read()))
+    put_status(x, bits::set_bit(position::place(x), x.read(status)))
 }
 
 // RSTBIT-STAT
@@ -91,5 +91,5 @@ pub fn reset_status(x: Inputs) -> Outputs
     ensures { λ r. ⌜ r ≡ putStatus x 0 ⌝ }
 {
     let status = x.status;
-    put_status(x, bits::clear_bit(position::place(x), status.read()))
+    put_status(x, bits::clear_bit(position::place(x), x.read(status)))
 }

@@ -4,7 +4,7 @@ use Rattle.bits.specs.Bits.{selected, choose, zeroOf, signOf, merged}
 use Rattle.machine.specs.declared.Status.{Status}
 use Rattle.machine.specs.declared.Inputs.{Inputs}
 use Rattle.machine.specs.declared.Outputs.{Outputs}
-use Rattle.machine.specs.Status.{Good, withN, withZ}
+use Rattle.machine.specs.Status.{Good, asRead, withN, withZ}
 
 -- the number of selected bits
 abbrev pub bitsOf : Inputs → ℕ
@@ -33,6 +33,10 @@ carryIn x = choose (x .select) (x .status .c) (x .carry)
 -- and the macro link in place of the L flag (DN1-LF)
 abbrev pub linkIn : Inputs → ℕ
 linkIn x = choose (x .select) (x .status .l) (x .link)
+
+-- the status register as a word that stands at the chip reads it
+abbrev pub readBy : Inputs → Status → ℕ
+readBy x s = asRead s
 
 -- ---- what a word leaves
 -- y on the Y bus and s in the status register; Q as it was

@@ -3,11 +3,23 @@
 use Prim.Native.Nat.{ℕ, _+_, _*_, _/_, _%_, _^_, _<_, max}
 use Rattle.bits.specs.Bits.{xor}
 use Rattle.machine.specs.declared.Status.{Status}
-use Rattle.machine.specs.declared.Machine.{Machine}
 
--- bits 13 to 15, read only, as one number: C or Z; N xor V; (N xor V) or Z
+-- ---- the relational bits, read only, under figure 3's names
+-- 13: C or Z
+abbrev pub UNSIGNED-LE : Status → ℕ
+UNSIGNED-LE s = max (s .c) (s .z)
+
+-- 14: N xor V
+abbrev pub SIGNED-LT : Status → ℕ
+SIGNED-LT s = xor (s .n) (s .v)
+
+-- 15: (N xor V) or Z
+abbrev pub SIGNED-LE : Status → ℕ
+SIGNED-LE s = max (SIGNED-LT s) (s .z)
+
+-- the three as one number
 abbrev pub workedOut : Status → ℕ
-workedOut s = max (s .c) (s .z) + xor (s .n) (s .v) * 2 + max (xor (s .n) (s .v)) (s .z) * 4
+workedOut s = UNSIGNED-LE s + SIGNED-LT s * 2 + SIGNED-LE s * 4
 
 -- the register as it is read: bits 13 to 15 worked out, bit 23 zero
 unfoldable pub asRead : Status → ℕ
@@ -80,7 +92,3 @@ withS f s = record { position = s .position; width = s .width; c = s .c; n = s .
 
 abbrev pub withNibbles : ℕ → Status → Status
 withNibbles k s = record { position = s .position; width = s .width; c = s .c; n = s .n; v = s .v; z = s .z; l = s .l; m = s .m; s = s .s; nibbles = k }
-
--- Q and the status register at zero
-abbrev pub freshOf : Machine
-freshOf = record { q = 0; status = 0 }

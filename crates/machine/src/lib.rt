@@ -1,8 +1,9 @@
 // The machine: the status register, Q, and what stands at the chip when a word starts and when it ends.
 ghost use mathlib.Core.Path.{_≡_};
 ghost use Prim.Native.Nat.{_+_, _*_, _/_, _%_, _<_, _≤_, max};
-ghost use Rattle.machine.specs.Status.{workedOut, asRead, loaded, Good, freshOf};
-ghost use Rattle.machine.specs.Inputs.{bitsOf, positionOf, widthOf, carryIn, linkIn, fullWidth, result, Sound};
+ghost use Rattle.machine.specs.Status.{workedOut, asRead, loaded, Good};
+ghost use Rattle.machine.specs.Inputs.{bitsOf, positionOf, widthOf, carryIn, linkIn, readBy, fullWidth, result, Sound};
+ghost use Rattle.machine.specs.Core.{freshOf, taken, handedBack, shownBy};
 
 // The status register as fields, without bits 13, 14, 15 and 23. Each flag is 0 or 1. Their order is for speed alone: with it no operation
 // leaves two fields by themselves between others that it touches. The compiler would copy such a pair as one number of 64 bits, in that
@@ -25,6 +26,12 @@ pub struct Status {
 pub struct Machine {
     pub q: u32,
     pub status: u32,
+}
+
+// What the chip keeps between two words: Q and the status register. Made from a `Machine` by `enter`, and into one again by `leave`.
+pub struct Core {
+    pub q: u32,
+    pub status: Status,
 }
 
 // What a word meets: its byte code I8 I7, position and width, macro select, carry and link, borrow; the A and B inputs; Q and
@@ -50,11 +57,54 @@ pub struct Outputs {
     pub status: Status,
 }
 
+// What one executed word shows: Y, and the core after it.
+pub struct Shown {
+    pub y: u32,
+    pub core: Core,
+}
+
 impl Machine {
     pub fn fresh() -> Machine
         ensures { λ r. ⌜ r ≡ freshOf ⌝ }
     {
         Machine { q: 0, status: 0 }
+    }
+
+    // Taken in: bits 13, 14, 15 and 23 of the status are ignored.
+    pub fn enter(self) -> Core
+        ensures { λ r. ⌜ r ≡ taken self ⌝ }
+    {
+        Core {
+            q: self.q,
+            status: Status::load(self.status),
+        }
+    }
+}
+
+impl Core {
+    // Handed back: those four bits are worked out.
+    pub fn leave(self) -> Machine
+        requires { ⌜ Good (self .status) ⌝ }
+        ensures { λ r. ⌜ r ≡ handedBack self ⌝ }
+    {
+        let status = self.status;
+        Machine {
+            q: self.q,
+            status: status.read(),
+        }
+    }
+}
+
+impl Outputs {
+    // What is kept of it and shown.
+    pub fn shown(self) -> Shown
+        ensures { λ r. ⌜ r ≡ shownBy self ⌝ }
+    {
+        let status = self.status;
+        Shown {
+            y: self.y,
+            core: Core { q: self.q, status },
+        }
     }
 }
 
@@ -178,6 +228,14 @@ impl Inputs {
             return self.status.l;
         }
         self.link
+    }
+
+    // The status register as this word reads it: the only way in which a page reads it.
+    pub fn read(self, status: Status) -> u32
+        requires { ⌜ Good status ⌝ }
+        ensures { λ r. ⌜ r ≡ readBy self status ⌝ }
+    {
+        status.read()
     }
 
     // What most words leave: r in the selected bytes, u in the others, Z and N of r.

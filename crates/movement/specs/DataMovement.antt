@@ -3,8 +3,8 @@ use Prim.Native.Nat.{ℕ}
 use Rattle.bits.specs.Bits.{signOf, merged, copies}
 use Rattle.machine.specs.declared.Inputs.{Inputs}
 use Rattle.machine.specs.declared.Outputs.{Outputs}
-use Rattle.machine.specs.Status.{asRead, loaded}
-use Rattle.machine.specs.Inputs.{bitsOf, leaving, zeroSign, result}
+use Rattle.machine.specs.Status.{loaded}
+use Rattle.machine.specs.Inputs.{bitsOf, readBy, leaving, zeroSign, result}
 
 -- The unselected most significant bytes contain zeroes. Z and N are of the selected bytes.
 unfoldable pub zeroExtend : Inputs → ℕ → Outputs
@@ -34,7 +34,7 @@ SIGN-EXTB x = signExtend x (x .b)
 
 -- 04. The status register as it is read; unselected bytes from B. No flag changes.
 unfoldable pub PASS-STAT : Inputs → Outputs
-PASS-STAT x = leaving x (merged (bitsOf x) (asRead (x .status)) (x .b)) (x .status)
+PASS-STAT x = leaving x (merged (bitsOf x) (readBy x (x .status)) (x .b)) (x .status)
 
 -- 05. The Q register; unselected bytes from B. No flag changes.
 unfoldable pub PASS-Q : Inputs → Outputs
@@ -66,7 +66,7 @@ MERGEB-A x = result x (x .b) (x .a)
 -- as they are, and the status register's other bytes. STATUS <13, 14, 15, 23> cannot be written.
 unfoldable pub loadStatus : Inputs → ℕ → Outputs
 loadStatus x s =
-    let y : ℕ = merged (bitsOf x) s (asRead (x .status)) in
+    let y : ℕ = merged (bitsOf x) s (readBy x (x .status)) in
     leaving x y (loaded y)
 
 -- 1C

@@ -5,8 +5,7 @@ use machine::Outputs;
 use machine::Status;
 ghost use mathlib.Core.Path.{_≡_};
 ghost use Rattle.bits.specs.Bits.{notOf, merged};
-ghost use Rattle.machine.specs.Status.{asRead};
-ghost use Rattle.machine.specs.Inputs.{Sound, bitsOf, result};
+ghost use Rattle.machine.specs.Inputs.{Sound, bitsOf, readBy, result};
 ghost use Rattle.movement.specs.DataMovement.{zeroExtend, signExtend, PASS-STAT, PASS-Q, loadQ, loadStatus};
 ghost use Rattle.movement.specs.Logical.{ZERO, SIGN, OR, XOR, AND, XNOR};
 ghost use Rattle.movement.specs.Prioritize.{prioritize};
@@ -39,7 +38,7 @@ pub fn pass_status(x: Inputs) -> Outputs
     let n = x.bits();
     let status = x.status;
     Outputs {
-        y: bits::merge(status.read(), x.b, n),
+        y: bits::merge(x.read(status), x.b, n),
         q: x.q,
         status,
     }
@@ -84,14 +83,14 @@ pub fn merge(x: Inputs, s: u32, u: u32) -> Outputs
 // handler's last word, the register need not be read.
 fn over_status(x: Inputs, s: u32) -> u32
     requires { ⌜ Sound x ⌝ }
-    ensures { λ r. ⌜ r ≡ merged (bitsOf x) s (asRead (x .status)) ⌝ }
+    ensures { λ r. ⌜ r ≡ merged (bitsOf x) s (readBy x (x .status)) ⌝ }
 {
     if x.code == 0 {
         return s;
     }
     let n = x.bits();
     let old = x.status;
-    bits::merge(s, old.read(), n)
+    bits::merge(s, x.read(old), n)
 }
 
 // LDSTAT-A, LDSTAT-B: Y shows the operand's bytes as they are, the register takes them without bits 13, 14, 15 and 23.

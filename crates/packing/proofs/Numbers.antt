@@ -273,25 +273,3 @@ bytes-number b0 b1 b2 b3 b4 b5 h0 h1 h2 h3 h4 h5 = λ i. e0 i ∷ e1 i ∷ e2 i 
 
     e5 : joined6 b0 b1 b2 b3 b4 b5 % 256 ≡ b5
     e5 = omega arith
-
--- ---- its first four bytes, as the code reads them
--- the first lowest
-abbrev low4 : ℕ → ℕ → ℕ → ℕ → ℕ
-low4 b0 b1 b2 b3 = b0 + b1 * 2 ^ 8 + b2 * 2 ^ 16 + b3 * 2 ^ 24
-
--- turned, the first stands highest
-pub turned-low : (b0 b1 b2 b3 v : ℕ) → b0 < 256 → b1 < 256 → b2 < 256 → b3 < 256 → v ≡ low4 b0 b1 b2 b3
-    → v % 2 ^ 8 * 2 ^ 24 + v / 2 ^ 8 % 2 ^ 8 * 2 ^ 16 + v / 2 ^ 16 % 2 ^ 8 * 2 ^ 8 + v / 2 ^ 24 ≡ b0 * 2 ^ 24 + b1 * 2 ^ 16 + b2 * 2 ^ 8 + b3
-turned-low b0 b1 b2 b3 v h0 h1 h2 h3 e = rw (e, e0, e1, e2, e3) refl
-  where
-    e0 : low4 b0 b1 b2 b3 % 2 ^ 8 ≡ b0
-    e0 = omega arith
-
-    e1 : low4 b0 b1 b2 b3 / 2 ^ 8 % 2 ^ 8 ≡ b1
-    e1 = omega arith
-
-    e2 : low4 b0 b1 b2 b3 / 2 ^ 16 % 2 ^ 8 ≡ b2
-    e2 = omega arith
-
-    e3 : low4 b0 b1 b2 b3 / 2 ^ 24 ≡ b3
-    e3 = omega arith

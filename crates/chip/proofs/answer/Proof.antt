@@ -1,6 +1,8 @@
 -- The operation that the number decodes to does what the whole word does, and leaves the status register in range. Assumes nothing.
 use mathlib.Core.Path.{ap}
 use native.Mathlib.Omega.{arith}
+use Rattle.machine.specs.declared.Outputs.{Outputs}
+use Rattle.machine.specs.Core.{shownBy}
 use Rattle.chip.specs.Single.{singleInputs, performed}
 use Rattle.chip.proofs.Pages.{performs}
 use Rattle.chip.proofs.Kept.{meaning-kept}
@@ -14,24 +16,29 @@ inputs-requires c κs = search needs
 perform-requires : tie.Need-perform-requires
 perform-requires c κs = rw (c .inputs .ensures) (c .before .pre .1)
 
+shown-requires : tie.Need-shown-requires
+shown-requires c κs = search needs
+
 parity-requires : tie.Need-parity-requires
 parity-requires c κs = search needs
 
 read-requires : tie.Need-read-requires
 read-requires c κs =
-    let at-start = c .before .before .before .before in
-    let x = c .before .before .before .inputs .result in
+    let at-inputs = c .before .before .before .before .before in
+    let at-start = at-inputs .before in
+    let x = at-inputs .inputs .result in
     -- past the word's own fields: A, B and Q
-    let rest = c .before .before .before .inputs .ok .1 .1 .1 .1 .1 .1 .1 in
-    rw (c .before .before .perform .ensures)
-    (meaning-kept x (rw (c .before .before .before .inputs .ensures) (at-start .pre .1)) (omega (arith, rest .0)) (omega (arith, rest .1 .0)) (omega (arith, rest .1 .1 .0)) (at-start .args .operation) .status)
+    let rest = at-inputs .inputs .ok .1 .1 .1 .1 .1 .1 .1 in
+    rw (c .before .before .before .shown .ensures, c .before .before .before .before .perform .ensures)
+    (meaning-kept x (rw (at-inputs .inputs .ensures) (at-start .pre .1)) (omega (arith, rest .0)) (omega (arith, rest .1 .0)) (omega (arith, rest .1 .1 .0)) (at-start .args .operation) .status)
 
 returns : tie.Need-returns
 returns c =
-    let at-start = c .before .before .before .before .before in
-    rw (c .read .ensures, c .before .parity .ensures, c .before .before .before .perform .ensures, c .before .before .before .before .inputs .ensures)
-    (ap performed (performs (at-start .args .s .opcode) (at-start .args .operation) (singleInputs (at-start .args .s)) (at-start .pre .0)))
+    let at-shown = c .before .before .before .before in
+    let at-start = at-shown .before .before .before in
+    rw (c .read .ensures, c .before .parity .ensures, at-shown .shown .ensures, at-shown .before .perform .ensures, at-shown .before .before .inputs .ensures)
+    (ap (λ (o : Outputs). performed (singleInputs (at-start .args .s)) (shownBy o)) (performs (at-start .args .s .opcode) (at-start .args .operation) (singleInputs (at-start .args .s)) (at-start .pre .0)))
 
 pub answer-spec : {M : Type 1} → statement M
 answer-spec =
-    tie.close (tie.spec inputs-requires perform-requires parity-requires read-requires returns)
+    tie.close (tie.spec inputs-requires perform-requires shown-requires parity-requires read-requires returns)

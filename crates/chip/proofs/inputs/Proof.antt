@@ -1,13 +1,13 @@
--- The fields as they are, and the status as it is loaded. Assumes nothing.
+-- The fields as they are, and the core as it is taken in. Assumes nothing.
 use borrow.Author.Needs.{needs}
 use Rattle.chip.proofs.inputs.Statement.{statement}
 use Rattle.chip.proofs.inputs.Tie as tie
 
-load-requires : tie.Need-load-requires
-load-requires c κs = search needs
+enter-requires : tie.Need-enter-requires
+enter-requires c κs = search needs
 
 returns : tie.Need-returns
-returns c = rw (c .load .ensures)
+returns c = rw (c .before .enter .ensures)
 
 pub inputs-spec : {M : Type 1} → statement M
-inputs-spec = tie.close (tie.spec load-requires returns)
+inputs-spec = tie.close (tie.spec enter-requires returns)

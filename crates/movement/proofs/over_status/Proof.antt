@@ -1,23 +1,19 @@
 -- With all four bytes selected nothing of the register is left. Assumes nothing.
-use mathlib.Core.Path.{_≡_, sym, ap, _∙_}
-use Prim.Native.Nat.{ℕ, _^_, _<_}
-use native.Mathlib.Omega.{arith}
+use mathlib.Core.Path.{sym, ap, _∙_}
+use Prim.Native.Nat.{ℕ}
 use Rattle.bits.specs.Bits.{selected, merged}
+use Rattle.bits.proofs.Laws.{merged-whole}
 use Rattle.machine.specs.Status.{asRead}
 use Rattle.machine.proofs.Round.{read-lt}
 use borrow.Author.Needs.{needs}
 use Rattle.movement.proofs.over_status.Statement.{statement}
 use Rattle.movement.proofs.over_status.Tie as tie
 
-whole : (s u : ℕ) → s < 2 ^ 32 → u < 2 ^ 32 → s ≡ merged 32 s u
-unfolding merged
-whole s u hs hu = omega arith
-
 returns : tie.Need-returns
 returns c =
     let b = c .before .before in
     let a = b .args in
-    whole (a .s) (asRead (a .x .status)) (b .fits .s .fits) (read-lt (a .x .status) (b .pre .status)) ∙ ap (λ (k : ℕ). merged (selected k) (a .s) (asRead (a .x .status))) (sym (c .if1 .taken))
+    sym (merged-whole (a .s) (asRead (a .x .status)) (b .fits .s .fits) (read-lt (a .x .status) (b .pre .status))) ∙ ap (λ (k : ℕ). merged (selected k) (a .s) (asRead (a .x .status))) (sym (c .if1 .taken))
 
 bits-requires : tie.Need-bits-requires
 bits-requires c κs = search needs

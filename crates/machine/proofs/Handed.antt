@@ -1,0 +1,14 @@
+-- What is handed back can be handed in again, and what is taken in is in range. Assumes nothing.
+use mathlib.Core.Path.{_≡_, ap}
+use Rattle.machine.specs.declared.Status.{Status}
+use Rattle.machine.specs.declared.Machine.{Machine}
+use Rattle.machine.specs.declared.Core.{Core}
+use Rattle.machine.specs.Status.{Good}
+use Rattle.machine.specs.Core.{taken, handedBack}
+use Rattle.machine.proofs.Round.{loaded-read, loaded-good}
+
+pub taken-back : (c : Core) → Good (c .status) → taken (handedBack c) ≡ c
+taken-back c g = ap (λ (s : Status). record { q = c .q; status = s }) (loaded-read (c .status) g)
+
+pub taken-good : (m : Machine) → Good (taken m .status)
+taken-good m = loaded-good (m .status)
