@@ -4,31 +4,46 @@ use reasons::Check;
 use reasons::Reason;
 use sheet::Which;
 ghost use mathlib.Core.Path.{_≡_};
-ghost use mathlib.Core.List.{[], _∷_};
-ghost use Prim.Native.Nat.{_+_, _*_, _-_, _≤_, _<_};
-ghost use lib.ListN.{length};
+ghost use Prim.Native.Nat.{_+_, _*_, _≤_, _<_};
+ghost use lib.ListN.{length, getD};
 ghost use Rattle.reasons.specs.Reasons.{firstOf, rowsBy};
-ghost use Rattle.packing.specs.Packing.{some, named};
-ghost use Rattle.sheet.specs.Sheet.{wordAt};
-ghost use Rattle.handler.specs.Form.{saved, notFixed, savingStatusFault, savingQFault, bodyFault, loadingFault, givingBackFault, firstRows, bodyRow, lastRows, eachRows, formOf, handlerOf};
-ghost use Rattle.handler.specs.Overlap.{markAll, tableOf, marked, overlapOf};
+ghost use Rattle.packing.specs.Registers.{common, namesAll, Narrow};
+ghost use Rattle.sheet.specs.Sheet.{wordsOf, wordsFrom};
+ghost use Rattle.handler.specs.Form.{saves, notFixed, savingStatusFault, savingQFault, bodyFault, loadingFault, givingBackFault, faultAt, formRow, formOf, handlerOf};
+ghost use Rattle.handler.specs.Overlap.{overlapRow, overlapOf};
 ghost use Rattle.handler.specs.Schedule.{entryRows, scheduleOf};
 
-// Word `index` of a sheet.
-fn word_at(s: &[u8], index: usize) -> Word
-    requires { ⌜ 4 + 6 * index + 6 ≤ length (now s) ⌝ }
-    ensures { λ r. ⌜ r ≡ wordAt (now (s .entry)) index ⌝ }
+// ---- sets of registers
+
+// Whether two sets have a register in common.
+fn meet(s: u64, t: u64) -> bool
+    ensures { λ r. ⌜ r ≡ common s t ⌝ }
 {
-    packing::fields(packing::word_number(sheet::fetch(s, s, Which::Main, index)))
+    s & t != 0
+}
+
+// The registers that n words of a sheet name, in one pass.
+fn names_in(s: &[u8], n: usize) -> u64
+    requires { ⌜ 4 + 6 * n ≤ length (now s) ⌝ }
+    ensures { λ r. ⌜ r ≡ namesAll (wordsFrom (now (s .entry)) 0 n) ⌝ }
+{
+    let mut set: u64 = 0;
+    let mut k: usize = 0;
+    while k < n {
+        set = set | packing::names(sheet::word_at(s, s, Which::Main, k));
+        k += 1;
+    }
+    set
 }
 
 // ---- 11: the form. In these tests `|` asks all, without a branch for each.
 
-// Whether one of two registers is s or q.
-fn one_saved(x: u32, y: u32, s: u32, q: u32) -> bool
-    ensures { λ r. ⌜ r ≡ some (saved s q) (x ∷ y ∷ []) ⌝ }
+// The set of s and q.
+fn saves(s: u32, q: u32) -> u64
+    requires { ⌜ (s < 64) × (q < 64) ⌝ }
+    ensures { λ r. ⌜ r ≡ saves s q ⌝ }
 {
-    ((x == s) | (x == q)) | ((y == s) | (y == q))
+    packing::only(s) | packing::only(q)
 }
 
 // Not a word of this opcode and write, or a byte code or a switch that is not 0.
@@ -45,38 +60,72 @@ fn not_fixed(w: Word, opcode: u32, write: u32) -> bool
 }
 
 // Word 0 saves the status in s.
-fn saving_status_fault(s: u32, q: u32, w: Word) -> bool
-    ensures { λ r. ⌜ r ≡ savingStatusFault s q w ⌝ }
+fn saving_status_fault(saved: u64, w: Word) -> bool
+    requires { ⌜ Narrow w ⌝ }
+    ensures { λ r. ⌜ r ≡ savingStatusFault saved w ⌝ }
 {
-    not_fixed(w, 0x04, 1) | one_saved(w.a, w.b, s, q)
+    not_fixed(w, 0x04, 1) | meet(packing::sources(w), saved)
 }
 
 // Word 1 saves Q in q, which is not s.
-fn saving_q_fault(s: u32, q: u32, w: Word) -> bool
-    ensures { λ r. ⌜ r ≡ savingQFault s q w ⌝ }
+fn saving_q_fault(saved: u64, s: u32, q: u32, w: Word) -> bool
+    requires { ⌜ Narrow w ⌝ }
+    ensures { λ r. ⌜ r ≡ savingQFault saved s q w ⌝ }
 {
-    not_fixed(w, 0x05, 1) | one_saved(w.a, w.b, s, q) | (s == q)
+    not_fixed(w, 0x05, 1) | meet(packing::sources(w), saved) | (s == q)
 }
 
-// A word that names s or q, in a field that it uses or not.
-fn body_fault(s: u32, q: u32, w: Word) -> bool
-    ensures { λ r. ⌜ r ≡ bodyFault s q w ⌝ }
+// A word of the body, which names neither.
+fn body_fault(saved: u64, w: Word) -> bool
+    requires { ⌜ Narrow w ⌝ }
+    ensures { λ r. ⌜ r ≡ bodyFault saved w ⌝ }
 {
-    ((w.a == s) | (w.a == q)) | ((w.b == s) | (w.b == q)) | ((w.y == s) | (w.y == q))
+    meet(packing::names(w), saved)
 }
 
 // Words 2 and 3 load Q and the status that the body starts with.
-fn loading_fault(opcode: u32, s: u32, q: u32, w: Word) -> bool
-    ensures { λ r. ⌜ r ≡ loadingFault opcode s q w ⌝ }
+fn loading_fault(opcode: u32, saved: u64, w: Word) -> bool
+    requires { ⌜ Narrow w ⌝ }
+    ensures { λ r. ⌜ r ≡ loadingFault opcode saved w ⌝ }
 {
-    not_fixed(w, opcode, 0) | body_fault(s, q, w)
+    not_fixed(w, opcode, 0) | body_fault(saved, w)
 }
 
-// The last two words give Q and then the status back; `back` is where this one saved it.
-fn giving_back_fault(opcode: u32, back: u32, s: u32, q: u32, w: Word) -> bool
-    ensures { λ r. ⌜ r ≡ givingBackFault opcode back s q w ⌝ }
+// The last two words give Q and then the status back; `back` is where this one was saved.
+fn giving_back_fault(opcode: u32, back: u32, saved: u64, w: Word) -> bool
+    requires { ⌜ Narrow w ⌝ }
+    ensures { λ r. ⌜ r ≡ givingBackFault opcode back saved w ⌝ }
 {
-    not_fixed(w, opcode, 0) | (w.a != back) | one_saved(w.b, w.y, s, q)
+    not_fixed(w, opcode, 0)
+        | (w.a != back)
+        | meet(packing::only(w.b) | packing::target(w), saved)
+}
+
+// Whether word k of n is at fault.
+fn fault(n: usize, s: u32, q: u32, k: usize, w: Word) -> bool
+    requires { ⌜ Narrow w × (s < 64) × (q < 64) × (k < n) ⌝ }
+    ensures { λ r. ⌜ r ≡ faultAt n s q k w ⌝ }
+{
+    let saved = saves(s, q);
+    if k == 0 {
+        return saving_status_fault(saved, w);
+    }
+    if k == 1 {
+        return saving_q_fault(saved, s, q, w);
+    }
+    if k == 2 {
+        return loading_fault(0x06, saved, w);
+    }
+    if k == 3 {
+        return loading_fault(0x1c, saved, w);
+    }
+    if n - k == 2 {
+        return giving_back_fault(0x06, q, saved, w);
+    }
+    if n - k == 1 {
+        return giving_back_fault(0x1c, s, saved, w);
+    }
+    body_fault(saved, w)
 }
 
 // The form refused at a word.
@@ -89,34 +138,14 @@ fn misformed(place: usize) -> Check
     }
 }
 
-// Words 0 to 3.
-fn check_first(h: &[u8], s: u32, q: u32) -> Check
-    requires { ⌜ 28 ≤ length (now h) ⌝ }
-    ensures { λ r. ⌜ r ≡ firstOf (firstRows (now (h .entry)) s q) ⌝ }
+// The first of n words that is at fault.
+fn first_misformed(h: &[u8], n: usize, s: u32, q: u32) -> Check
+    requires { ⌜ (4 + 6 * n ≤ length (now h)) × (s < 64) × (q < 64) ⌝ }
+    ensures { λ r. ⌜ r ≡ firstOf (rowsBy (formRow (now (h .entry)) n s q) 0 n) ⌝ }
 {
-    if saving_status_fault(s, q, word_at(h, 0)) {
-        return misformed(0);
-    }
-    if saving_q_fault(s, q, word_at(h, 1)) {
-        return misformed(1);
-    }
-    if loading_fault(0x06, s, q, word_at(h, 2)) {
-        return misformed(2);
-    }
-    if loading_fault(0x1c, s, q, word_at(h, 3)) {
-        return misformed(3);
-    }
-    Check::Good
-}
-
-// The body: words 4 up to `end`.
-fn check_body(h: &[u8], end: usize, s: u32, q: u32) -> Check
-    requires { ⌜ (4 ≤ end) × (4 + 6 * end ≤ length (now h)) ⌝ }
-    ensures { λ r. ⌜ r ≡ firstOf (rowsBy (bodyRow (now (h .entry)) s q) 4 (end - 4)) ⌝ }
-{
-    let mut k: usize = 4;
-    while k < end {
-        if body_fault(s, q, word_at(h, k)) {
+    let mut k: usize = 0;
+    while k < n {
+        if fault(n, s, q, k, sheet::word_at(h, h, Which::Main, k)) {
             return misformed(k);
         }
         k += 1;
@@ -124,47 +153,18 @@ fn check_body(h: &[u8], end: usize, s: u32, q: u32) -> Check
     Check::Good
 }
 
-// The last two of n words.
-fn check_last(h: &[u8], n: usize, s: u32, q: u32) -> Check
-    requires { ⌜ (6 ≤ n) × (4 + 6 * n ≤ length (now h)) ⌝ }
-    ensures { λ r. ⌜ r ≡ firstOf (lastRows (now (h .entry)) n s q) ⌝ }
+// Reason 11. Public for the crate above, which has checked the sheet.
+pub fn form(h: &[u8]) -> Check
+    requires { ⌜ (4 ≤ length (now h)) × (4 + 6 * wordsOf (now h) ≤ length (now h)) ⌝ }
+    ensures { λ r. ⌜ r ≡ formOf (now (h .entry)) ⌝ }
 {
-    if giving_back_fault(0x06, q, s, q, word_at(h, n - 2)) {
-        return misformed(n - 2);
-    }
-    if giving_back_fault(0x1c, s, s, q, word_at(h, n - 1)) {
-        return misformed(n - 1);
-    }
-    Check::Good
-}
-
-// Six words or more, in their order.
-fn check_each(h: &[u8], n: usize, s: u32, q: u32) -> Check
-    requires { ⌜ (6 ≤ n) × (4 + 6 * n ≤ length (now h)) ⌝ }
-    ensures { λ r. ⌜ r ≡ firstOf (eachRows (now (h .entry)) n s q) ⌝ }
-{
-    let first = check_first(h, s, q);
-    if let Check::Bad { reason, place } = first {
-        return Check::Bad { reason, place };
-    }
-    let body = check_body(h, n - 2, s, q);
-    if let Check::Bad { reason, place } = body {
-        return Check::Bad { reason, place };
-    }
-    check_last(h, n, s, q)
-}
-
-// Reason 11 of a sheet of n words. Public for the crate above, which has checked the sheet.
-pub fn form(h: &[u8], n: usize) -> Check
-    requires { ⌜ 4 + 6 * n ≤ length (now h) ⌝ }
-    ensures { λ r. ⌜ r ≡ formOf (now (h .entry)) n ⌝ }
-{
+    let n = sheet::words(h);
     if n < 6 {
         return misformed(0);
     }
-    let first = word_at(h, 0);
-    let second = word_at(h, 1);
-    check_each(h, n, first.y, second.y)
+    let first = sheet::word_at(h, h, Which::Main, 0);
+    let second = sheet::word_at(h, h, Which::Main, 1);
+    first_misformed(h, n, first.y, second.y)
 }
 
 // A sheet handed in as a handler, on its own: its own reasons, then the form.
@@ -175,59 +175,22 @@ pub fn check_handler(s: &[u8]) -> Check
     if let Check::Bad { reason, place } = own {
         return Check::Bad { reason, place };
     }
-    form(s, sheet::words(s))
+    form(s)
 }
 
 // ---- 12: registers named by both
 
-// Marks the registers that a word names.
-fn mark(table: &mut [u8; 64], w: Word)
-    requires { ⌜ (w .a < 64) × (w .b < 64) × (w .y < 64) ⌝ }
-    ensures { λ _. ⌜ now (table .exit) ≡ markAll (now (table .entry)) (named w) ⌝ }
+// The first of m main words that names a register of a set.
+fn first_sharing(main: &[u8], m: usize, theirs: u64) -> Check
+    requires { ⌜ 4 + 6 * m ≤ length (now main) ⌝ }
+    ensures { λ r. ⌜ r ≡ firstOf (rowsBy (overlapRow (now (main .entry)) theirs) 0 m) ⌝ }
 {
-    let a = w.a as usize;
-    let b = w.b as usize;
-    let y = w.y as usize;
-    table[a] = 1;
-    table[b] = 1;
-    table[y] = 1;
-}
-
-// The registers that n words of a sheet name, in one pass: 1 where one is named.
-fn table(h: &[u8], n: usize) -> [u8; 64]
-    requires { ⌜ 4 + 6 * n ≤ length (now h) ⌝ }
-    ensures { λ r. ⌜ r ≡ tableOf (now (h .entry)) n ⌝ }
-{
-    let mut marks = [0u8; 64];
-    let mut k: usize = 0;
-    while k < n {
-        mark(&mut marks, word_at(h, k));
-        k += 1;
-    }
-    marks
-}
-
-// Whether a word names a marked register, in a field that it uses or not.
-fn names_marked(marks: &[u8; 64], w: Word) -> bool
-    requires { ⌜ (w .a < 64) × (w .b < 64) × (w .y < 64) ⌝ }
-    ensures { λ r. ⌜ r ≡ some (marked (now (marks .entry))) (named w) ⌝ }
-{
-    let a = w.a as usize;
-    let b = w.b as usize;
-    let y = w.y as usize;
-    (marks[a] == 1) | (marks[b] == 1) | (marks[y] == 1)
-}
-
-// Reason 12: the first of m main words that names a register of the handler's n words, in one pass over each sheet. Public for the crate
-// above, which has checked both.
-pub fn overlap<'a>(main: &'a [u8], m: usize, h: &'a [u8], n: usize) -> Check
-    requires { ⌜ (4 + 6 * m ≤ length (now main)) × (4 + 6 * n ≤ length (now h)) ⌝ }
-    ensures { λ r. ⌜ r ≡ overlapOf (now (main .entry)) m (now (h .entry)) n ⌝ }
-{
-    let marks = table(h, n);
     let mut k: usize = 0;
     while k < m {
-        if names_marked(&marks, word_at(main, k)) {
+        if meet(
+            packing::names(sheet::word_at(main, main, Which::Main, k)),
+            theirs,
+        ) {
             return Check::Bad {
                 reason: Reason::Overlap,
                 place: k,
@@ -238,9 +201,32 @@ pub fn overlap<'a>(main: &'a [u8], m: usize, h: &'a [u8], n: usize) -> Check
     Check::Good
 }
 
+// Reason 12: the registers of the two sheets, each in one pass; only where they meet is the first main word looked for. Public for the crate
+// above, which has checked both.
+pub fn overlap<'a>(main: &'a [u8], h: &'a [u8]) -> Check
+    requires { ⌜ (4 ≤ length (now main)) × (4 + 6 * wordsOf (now main) ≤ length (now main)) ⌝ }
+    requires { ⌜ (4 ≤ length (now h)) × (4 + 6 * wordsOf (now h) ≤ length (now h)) ⌝ }
+    ensures { λ r. ⌜ r ≡ overlapOf (now (main .entry)) (now (h .entry)) ⌝ }
+{
+    let m = sheet::words(main);
+    let theirs = names_in(h, sheet::words(h));
+    if meet(names_in(main, m), theirs) {
+        return first_sharing(main, m, theirs);
+    }
+    Check::Good
+}
+
 // ---- 13: the schedule
 
-// Entry j is b, and the one before it is `last`; n is the main list's count.
+// Boundary j of a schedule: the one place where one is read. Public for the crate above.
+pub fn boundary(schedule: &[u16], j: usize) -> usize
+    requires { ⌜ j < length (now schedule) ⌝ }
+    ensures { λ r. ⌜ r ≡ getD (now (schedule .entry)) j 0 ⌝ }
+{
+    schedule[j] as usize
+}
+
+// Entry j is b, and the one before it is `last`; n is the number of main executions.
 fn check_entry(n: usize, last: usize, b: usize, j: usize) -> Check
     ensures { λ r. ⌜ r ≡ firstOf (entryRows n last b j) ⌝ }
 {
@@ -253,14 +239,14 @@ fn check_entry(n: usize, last: usize, b: usize, j: usize) -> Check
     Check::Good
 }
 
-// Reason 13 for a main list of n words, in one pass.
+// Reason 13 for a main list of n executions, in one pass.
 pub fn check_schedule(schedule: &[u16], n: usize) -> Check
     ensures { λ r. ⌜ r ≡ scheduleOf (now (schedule .entry)) n ⌝ }
 {
     let mut last: usize = 0;
     let mut j: usize = 0;
     while j < schedule.len() {
-        let b = schedule[j] as usize;
+        let b = boundary(schedule, j);
         let c = check_entry(n, last, b, j);
         if let Check::Bad { reason, place } = c {
             return Check::Bad { reason, place };

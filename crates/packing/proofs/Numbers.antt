@@ -16,7 +16,7 @@ use Rattle.chip.specs.declared.Word.{Word}
 use Rattle.chip.specs.Glossary.{glossary, pageOf}
 use Rattle.chip.specs.Glossary.Page.{no-page}
 use Rattle.chip.specs.Single.{noPage, outOfRange}
-use Rattle.packing.specs.Packing.{number6, fieldsOf, spareOf, packedNumber, bytes6, lacksPage, some, named, tooLarge, InRange}
+use Rattle.packing.specs.Packing.{number6, fieldsOf, spareOf, packedNumber, bytes6, lacksPage, some, registerFields, tooLarge, InRange}
 
 -- ---- pages
 -- the code's test of a number
@@ -79,7 +79,7 @@ in-range w n h =
     let k : Bool = ltb 1 (w .carry) in
     let l : Bool = ltb 1 (w .link) in
     let o : Bool = ltb 1 (w .borrow) in
-    let r : Bool = some (ltb 63) (named w) in
+    let r : Bool = some (ltb 63) (registerFields w) in
     let h₇ : (c || p || t || s || k || l || o || r) ≡ false = or-left (c || p || t || s || k || l || o || r) (ltb 1 (w .write)) h in
     let h₆ : (c || p || t || s || k || l || o) ≡ false = or-left (c || p || t || s || k || l || o) r h₇ in
     let h₅ : (c || p || t || s || k || l) ≡ false = or-left (c || p || t || s || k || l) o h₆ in
@@ -87,7 +87,7 @@ in-range w n h =
     let h₃ : (c || p || t || s) ≡ false = or-left (c || p || t || s) k h₄ in
     let h₂ : (c || p || t) ≡ false = or-left (c || p || t) s h₃ in
     let h₁ : (c || p) ≡ false = or-left (c || p) t h₂ in
-    let e : Every (ltb 63) (named w) = every (ltb 63) (named w) (or-right (c || p || t || s || k || l || o) r h₇) in
+    let e : Every (ltb 63) (registerFields w) = every (ltb 63) (registerFields w) (or-right (c || p || t || s || k || l || o) r h₇) in
     record {
       opcode = page-small (w .opcode) n;
       code = below 3 (w .code) (or-left c p h₁);
@@ -103,13 +103,13 @@ in-range w n h =
       borrow = below 1 (w .borrow) (or-right (c || p || t || s || k || l) o h₆);
     }
   where
-    first : Every (ltb 63) (named w) → ltb 63 (w .a) ≡ false
+    first : Every (ltb 63) (registerFields w) → ltb 63 (w .a) ≡ false
     first (and a t) = a
 
-    second : Every (ltb 63) (named w) → ltb 63 (w .b) ≡ false
+    second : Every (ltb 63) (registerFields w) → ltb 63 (w .b) ≡ false
     second (and a (and b t)) = b
 
-    third : Every (ltb 63) (named w) → ltb 63 (w .y) ≡ false
+    third : Every (ltb 63) (registerFields w) → ltb 63 (w .y) ≡ false
     third (and a (and b (and y t))) = y
 
     below : (n x : ℕ) → ltb n x ≡ false → x < n + 1

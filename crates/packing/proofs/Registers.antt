@@ -18,6 +18,10 @@ use Rattle.packing.specs.Registers.{only, isIn, common, sourcesOf, targe
 use Rattle.packing.proofs.Numbers.{or-left, or-right}
 
 -- ---- sets
+-- a number that is not zero
+some : (x : ℕ) → 0 < x → differ x 0 ≡ true
+some x h = ap not (ne-eqb x 0 (λ (e : x ≡ 0). omega arith))
+
 pub in-or : (s t r : ℕ) → isIn (bitOr s t) r ≡ (isIn s r || isIn t r)
 unfolding isIn
 in-or s t r = ap (λ (x : ℕ). eqb x 1) (bit-or r s t) ∙ flags (bitOf r s) (bitOf r t) (bit-lt r s) (bit-lt r t)
@@ -79,7 +83,7 @@ common-only s k =
     flags : (f n : ℕ) → f < 2 → 0 < n → differ (f * n) 0 ≡ eqb f 1
     flags f n h i =
         by-flag (λ (f : ℕ). differ (f * n) 0 ≡ eqb f 1) (ap (λ (x : ℕ). differ x 0) (zero-mul n))
-        (ap (λ (x : ℕ). differ x 0) (one-mul n) ∙ ap not (ne-eqb n 0 (λ (e : n ≡ 0). omega arith))) f h
+        (ap (λ (x : ℕ). differ x 0) (one-mul n) ∙ some n i) f h
 
 -- what a union has in common, of sets of 64 registers
 pub common-or : (s t u : ℕ) → s < 2 ^ 64 → t < 2 ^ 64 → u < 2 ^ 64 → common (bitOr s t) u ≡ (common s u || common t u)
@@ -98,8 +102,9 @@ common-or s t u hs ht hu = ap (λ (x : ℕ). differ x 0) spread ∙ apart (bitAn
 
     apart : (x y : ℕ) → differ (bitOr x y) 0 ≡ (differ x 0 || differ y 0)
     apart zero zero = refl
-    apart zero (suc y) = ap not (ne-eqb (bitOr 0 (suc y)) 0 (λ (e : bitOr 0 (suc y) ≡ 0). omega (arith, or-add-and 0 (suc y), and-le-l 0 (suc y))))
-    apart (suc x) y = ap not (ne-eqb (bitOr (suc x) y) 0 (λ (e : bitOr (suc x) y ≡ 0). omega (arith, or-add-and (suc x) y, and-le-r (suc x) y)))
+    apart zero (suc y) = some (bitOr 0 (suc y)) (omega (arith, or-add-and 0 (suc y), and-le-l 0 (suc y))) ∙ sym (some (suc y) (omega arith))
+    apart (suc x) y =
+        some (bitOr (suc x) y) (omega (arith, or-add-and (suc x) y, and-le-r (suc x) y)) ∙ sym (ap (λ (b : Bool). b || differ y 0) (some (suc x) (omega arith)))
 
 -- ---- the registers that a word names
 pub names-a : (w : Word) → isIn (namesOf w) (w .a) ≡ true
@@ -113,3 +118,8 @@ names-b w = simp (in-or, in-only, or-true)
 pub names-y : (w : Word) → isIn (namesOf w) (w .y) ≡ true
 unfolding namesOf sourcesOf targetOf
 names-y w = simp (in-or, in-only, or-true)
+
+-- the register fields of any number have six bits
+pub narrow : (v : ℕ) → Narrow (fieldsOf v)
+unfolding fieldsOf
+narrow v = record { a = omega arith; b = omega arith; y = omega arith }

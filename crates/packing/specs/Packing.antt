@@ -56,9 +56,9 @@ bytes6 v = v / 2 ^ 40 % 256 ∷ v / 2 ^ 32 % 256 ∷ v / 2 ^ 24 % 256 ∷ v / 2 
 unfoldable pub lacksPage : ℕ → Bool
 lacksPage n = noPage (pageOf n)
 
--- the fields that name a register, used or not
-abbrev pub named : Word → List ℕ
-named w = w .a ∷ w .b ∷ w .y ∷ []
+-- the fields that hold a register's number
+abbrev pub registerFields : Word → List ℕ
+registerFields w = w .a ∷ w .b ∷ w .y ∷ []
 
 -- one of the numbers passes the test
 abbrev pub some : (ℕ → Bool) → List ℕ → Bool
@@ -70,7 +70,7 @@ some p (x ∷ xs) = p x || some p xs
 unfoldable pub tooLarge : Word → Bool
 tooLarge w =
     outOfRange (w .code) (w .position) (w .width) (w .select) (w .carry) (w .link) (w .borrow)
-    || some (ltb 63) (named w)
+    || some (ltb 63) (registerFields w)
     || ltb 1 (w .write)
 
 -- two numbers are not the same

@@ -4,10 +4,11 @@ use reasons::Check;
 use reasons::Reason;
 ghost use mathlib.Core.Path.{_≡_};
 ghost use mathlib.Core.List.{_∷_, _++_};
-ghost use Prim.Native.Nat.{_+_, _*_, _/_, _%_, _^_, _≤_};
+ghost use Prim.Native.Nat.{_+_, _*_, _%_, _^_, _<_, _≤_};
 ghost use lib.ListN.{length, drop};
 ghost use lib.Dec.{leb};
-ghost use Rattle.packing.specs.Packing.{number6, fieldsOf, packedNumber, bytes6, lacksPage, some, named, tooLarge, InRange, ended, packOf, unpackOf, unpackedBy, blank};
+ghost use Rattle.packing.specs.Packing.{number6, fieldsOf, packedNumber, bytes6, lacksPage, some, registerFields, tooLarge, InRange, ended, packOf, unpackOf, unpackedBy, blank};
+ghost use Rattle.packing.specs.Registers.{only, sourcesOf, targetOf, namesOf, Narrow};
 
 // What unpacking answers: the word where the check is good, else all fields 0.
 pub struct Unpacked {
@@ -15,26 +16,11 @@ pub struct Unpacked {
     pub word: Word,
 }
 
-// Four bytes as one number, the first lowest: one load on a little-endian machine.
-fn low_first(b0: u8, b1: u8, b2: u8, b3: u8) -> u32
-    ensures { λ r. ⌜ r ≡ b0 + b1 * 2 ^ 8 + b2 * 2 ^ 16 + b3 * 2 ^ 24 ⌝ }
-{
-    b0 as u32 + b1 as u32 * 0x100 + b2 as u32 * 0x1_0000 + b3 as u32 * 0x100_0000
-}
-
-// The four bytes of a number the other way round: one instruction.
-fn turned(v: u32) -> u32
-    ensures { λ r. ⌜ r ≡ v % 2 ^ 8 * 2 ^ 24 + v / 2 ^ 8 % 2 ^ 8 * 2 ^ 16 + v / 2 ^ 16 % 2 ^ 8 * 2 ^ 8 + v / 2 ^ 24 ⌝ }
-{
-    v % 256 * 0x100_0000 + v / 0x100 % 256 * 0x1_0000 + v / 0x1_0000 % 256 * 0x100 + v / 0x100_0000
-}
-
-// Six bytes as one number, the first highest: the first four come at once, by one load and one turn.
+// Six bytes as one number, the first highest.
 fn joined(b0: u8, b1: u8, b2: u8, b3: u8, b4: u8, b5: u8) -> u64
     ensures { λ r. ⌜ r ≡ b0 * 2 ^ 40 + b1 * 2 ^ 32 + b2 * 2 ^ 24 + b3 * 2 ^ 16 + b4 * 2 ^ 8 + b5 ⌝ }
 {
-    let low = low_first(b0, b1, b2, b3);
-    turned(low) as u64 * 0x1_0000 + b4 as u64 * 0x100 + b5 as u64
+    bits::four_bytes(b0, b1, b2, b3) as u64 * 0x1_0000 + b4 as u64 * 0x100 + b5 as u64
 }
 
 // The six bytes at the start of `s`, as one number. Public for the crates above, which see to the length.
@@ -73,9 +59,9 @@ pub fn lacks_page(n: u32) -> bool
     (127 < n) | (n / 2 == 0x0f) | (n / 2 == 0x26)
 }
 
-// Whether a field of the word names a register from n on.
+// Whether a register field holds n or more.
 pub fn names_from(n: u32, w: Word) -> bool
-    ensures { λ r. ⌜ r ≡ some (leb n) (named w) ⌝ }
+    ensures { λ r. ⌜ r ≡ some (leb n) (registerFields w) ⌝ }
 {
     (n <= w.a) | (n <= w.b) | (n <= w.y)
 }
@@ -142,6 +128,42 @@ fn put_number(v: u64, d: &mut [u8])
         (v % 256) as u8,
     );
 }
+
+// ---- the registers that a word names, as a set
+
+// Register r alone.
+pub fn only(r: u32) -> u64
+    requires { ⌜ r < 64 ⌝ }
+    ensures { λ s. ⌜ s ≡ only r ⌝ }
+{
+    1 << r
+}
+
+// As sources: A and B.
+pub fn sources(w: Word) -> u64
+    requires { ⌜ Narrow w ⌝ }
+    ensures { λ s. ⌜ s ≡ sourcesOf w ⌝ }
+{
+    only(w.a) | only(w.b)
+}
+
+// As target: Y, used or not.
+pub fn target(w: Word) -> u64
+    requires { ⌜ Narrow w ⌝ }
+    ensures { λ s. ⌜ s ≡ targetOf w ⌝ }
+{
+    only(w.y)
+}
+
+// All that it names.
+pub fn names(w: Word) -> u64
+    requires { ⌜ Narrow w ⌝ }
+    ensures { λ s. ⌜ s ≡ namesOf w ⌝ }
+{
+    sources(w) | target(w)
+}
+
+// ---- packing and unpacking
 
 // Packing: the word into the first six bytes of `d`. Where it is refused `d` stays.
 pub fn pack(w: Word, d: &mut [u8]) -> Check

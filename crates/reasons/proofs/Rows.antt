@@ -103,10 +103,10 @@ module _ (f : ℕ → List Row) where
       let e : count - k ≡ suc (count - (k + 1)) = omega arith in
       rw e refl
 
-  pub rows-bad : (k count : ℕ) (r : Reason) (p : ℕ) → k < count → firstOf (f k) ≡ Bad r p → firstOf (rowsBy f k (count - k)) ≡ Bad r p
+  rows-bad : (k count : ℕ) (r : Reason) (p : ℕ) → k < count → firstOf (f k) ≡ Bad r p → firstOf (rowsBy f k (count - k)) ≡ Bad r p
   rows-bad k count r p h e = ap firstOf (rows-more k count h) ∙ first-bad (f k) (rowsBy f (k + 1) (count - (k + 1))) r p e
 
-  pub rows-good : (k count : ℕ) → k < count → firstOf (f k) ≡ Good → firstOf (rowsBy f k (count - k)) ≡ firstOf (rowsBy f (k + 1) (count - (k + 1)))
+  rows-good : (k count : ℕ) → k < count → firstOf (f k) ≡ Good → firstOf (rowsBy f k (count - k)) ≡ firstOf (rowsBy f (k + 1) (count - (k + 1)))
   rows-good k count h e = ap firstOf (rows-more k count h) ∙ first-good (f k) (rowsBy f (k + 1) (count - (k + 1))) e
 
   -- with the answer so far, and that of the next test
@@ -117,14 +117,36 @@ module _ (f : ℕ → List Row) where
       ap (λ (b : Bool). good && b) (ap noneHold (rows-more k count h) ∙ hold-append (f k) rest)
       ∙ sym (and-assoc good (noneHold (f k)) (noneHold rest)) ∙ ap (λ (b : Bool). good && b && noneHold rest) (sym e)
 
+-- what holds at each turn of a loop over the things up to n: the whole table answers as what is left of it, from thing k on
+pub record Scan (f : ℕ → List Row) (whole : List Row) (n k : ℕ) : Type 0 where
+  pub upto : k ≤ n
+  pub same : firstOf whole ≡ firstOf (rowsBy f k (n - k))
+
+pub scan-start : (f : ℕ → List Row) (k m n : ℕ) → k ≤ n → n - k ≡ m → Scan f (rowsBy f k m) n k
+scan-start f k m n h e = record { upto = h; same = ap (λ (j : ℕ). firstOf (rowsBy f k j)) (sym e) }
+
+module _ {f : ℕ → List Row} {whole : List Row} {n k : ℕ} (s : Scan f whole n k) where
+  pub scan-bad : {r : Reason} {p : ℕ} → k < n → firstOf (f k) ≡ Bad r p → Bad r p ≡ firstOf whole
+  scan-bad {r} {p} h e = sym (s .same ∙ rows-bad f k n r p h e)
+
+  pub scan-more : k < n → firstOf (f k) ≡ Good → Scan f whole n (k + 1)
+  scan-more h e = record { upto = omega arith; same = s .same ∙ rows-good f k n h e }
+
+  pub scan-done : n ≤ k → Good ≡ firstOf whole
+  scan-done h = let e : n - k ≡ 0 = omega arith in sym (s .same ∙ rw e refl)
+
 -- a part of the table in which no row holds
-none-left : (a b : List Row) → None (a ++ b) → None a
+pub none-left : (a b : List Row) → None (a ++ b) → None a
 none-left [] b n = none
 none-left (r ∷ rs) b (more h n) = more h (none-left rs b n)
 
-none-right : (a b : List Row) → None (a ++ b) → None b
+pub none-right : (a b : List Row) → None (a ++ b) → None b
 none-right [] b n = n
 none-right (r ∷ rs) b (more h n) = none-right rs b n
+
+pub none-both : (a b : List Row) → None a → None b → None (a ++ b)
+none-both [] b n m = m
+none-both (r ∷ rs) b (more h n) m = more h (none-both rs b n m)
 
 pub none-at : (f : ℕ → List Row) (k m : ℕ) → None (rowsBy f k m) → (j : ℕ) → k ≤ j → j < k + m → None (f j)
 none-at f k zero h j lo hi = absurd (omega arith)

@@ -3,9 +3,10 @@
 use mathlib.Core.Path.{_≡_}
 use mathlib.Core.List.{List, [], _∷_, _++_}
 use mathlib.Core.Bool.{Bool, false, _||_}
-use Prim.Native.Nat.{ℕ, _+_, _*_, _/_, _%_, _^_, _<_, _≤_}
+use Prim.Native.Nat.{ℕ, zero, suc, _+_, _-_, _*_, _/_, _%_, _^_, _<_, _≤_}
 use lib.ListN.{length, getD, take, drop}
 use lib.Dec.{eqb, ltb, leb}
+use Rattle.bits.specs.Bits.{bytes4}
 use Rattle.reasons.specs.Reasons.{Row, _gives_at_, firstOf, rowsBy}
 use Rattle.reasons.specs.declared.Reason.the-variants.{Opcode, Short, Version, Header, Length, File, Spare, Register, Start}
 use Rattle.reasons.specs.declared.Check.{Check}
@@ -14,11 +15,12 @@ use Rattle.sheet.specs.declared.Which.{Which}
 use Rattle.sheet.specs.declared.Which.the-variants.{Main, Handler}
 use Rattle.sheet.specs.declared.Given.{Given}
 use Rattle.sheet.specs.declared.Given.the-variants.{Absent, Number}
-use Rattle.packing.specs.Packing.{number6, fieldsOf, spareOf, lacksPage, some, named, differ, InRange}
+use Rattle.packing.specs.Packing.{number6, fieldsOf, spareOf, lacksPage, some, registerFields, differ, InRange}
+use Rattle.packing.specs.Registers.{namesAll}
 
 -- ---- the header: four bytes as one number of 32 bits
 abbrev pub number4 : List ℕ → ℕ
-number4 s = getD s 0 0 * 2 ^ 24 + getD s 1 0 * 2 ^ 16 + getD s 2 0 * 2 ^ 8 + getD s 3 0
+number4 s = bytes4 (getD s 0 0) (getD s 1 0) (getD s 2 0) (getD s 3 0)
 
 -- version 4, word count 12, register count 7, zero 9
 abbrev pub versionOf : ℕ → ℕ
@@ -50,6 +52,28 @@ numberAt s k = number6 (partOf s k)
 abbrev pub wordAt : List ℕ → ℕ → Word
 wordAt s k = fieldsOf (numberAt s k)
 
+-- n words from word k on
+unfoldable pub wordsFrom : List ℕ → ℕ → ℕ → List Word
+wordsFrom s k zero = []
+wordsFrom s k (suc n) = wordAt s k ∷ wordsFrom s (k + 1) n
+
+-- all of them
+abbrev pub allWords : List ℕ → List Word
+allWords s = wordsFrom s 0 (wordsOf s)
+
+-- the registers that they name, as a set
+abbrev pub namesIn : List ℕ → ℕ
+namesIn s = namesAll (allWords s)
+
+-- The executions of a sheet, one after another: each word once. Start, allowance, boundaries and counts are positions in this list; a place is
+-- a word's number.
+unfoldable pub executionsOf : List ℕ → List Word
+executionsOf s = allWords s
+
+-- from one position up to another
+abbrev pub between : ℕ → ℕ → List Word → List Word
+between «from» to ws = take (to - «from») (drop «from» ws)
+
 -- one of two sheets
 abbrev pub sheetOf : Which → List ℕ → List ℕ → List ℕ
 sheetOf Main m h = m
@@ -65,7 +89,7 @@ abbrev pub fewer : Given → ℕ → Bool
 fewer Absent n = false
 fewer (Number lent) n = ltb lent n
 
--- Start: start word above the count; a call that takes no start skips it
+-- Start: start above the executions; a call that takes no start skips it
 abbrev pub above : Given → ℕ → Bool
 above Absent n = false
 above (Number start) n = ltb n start
@@ -76,31 +100,46 @@ abbrev pub numberRows : ℕ → ℕ → ℕ → List Row
 numberRows v n k =
     (differ (spareOf v) 0 gives Spare at k)
     ∷ (lacksPage (fieldsOf v .opcode) gives Opcode at k)
-    ∷ (some (leb n) (named (fieldsOf v)) gives Register at k)
+    ∷ (some (leb n) (registerFields (fieldsOf v)) gives Register at k)
     ∷ []
 
 unfoldable pub wordRows : List ℕ → ℕ → ℕ → List Row
 wordRows s n k = numberRows (numberAt s k) n k
 
--- a sheet of len bytes whose header is h: 4, 5, 6, 7
-abbrev pub headRows : ℕ → ℕ → Given → List Row
-headRows len h file =
+-- len bytes whose header is h, with so many bytes beside the sheet for each register that it declares: 4, 5, 6, 7
+abbrev pub headRows : ℕ → ℕ → ℕ → Given → List Row
+headRows beside len h file =
     (differ (versionOf h) 1 gives Version at 0)
     ∷ (badHeader h gives Header at 0)
-    ∷ (differ len (4 + 6 * countOf h) gives Length at 0)
+    ∷ (differ len (4 + 6 * countOf h + beside * registersOf h) gives Length at 0)
     ∷ (fewer file (registersOf h) gives File at 0)
     ∷ []
 
--- 3 to 7, then words in order, in each 8, 1, 9; then 10
-unfoldable pub sheetRows : List ℕ → Given → Given → List Row
-sheetRows s file start =
-    (ltb (length s) 4 gives Short at 0)
-    ∷ (headRows (length s) (number4 s) file
-    ++ (rowsBy (wordRows s (declaredOf s)) 0 (wordsOf s)
-    ++ ((above start (wordsOf s) gives Start at 0) ∷ [])))
+-- 10, of a sheet of n executions
+abbrev pub startRows : Given → ℕ → List Row
+startRows start n = (above start n gives Start at 0) ∷ []
 
-unfoldable pub checkOf : List ℕ → Given → Given → Check
-checkOf s file start = firstOf (sheetRows s file start)
+-- 3 to 7, then words in order, in each 8, 1, 9; then 10
+unfoldable pub rowsBeside : ℕ → List ℕ → Given → Given → List Row
+rowsBeside beside s file start =
+    (ltb (length s) 4 gives Short at 0)
+    ∷ (headRows beside (length s) (number4 s) file
+    ++ (rowsBy (wordRows s (declaredOf s)) 0 (wordsOf s)
+    ++ startRows start (length (executionsOf s))))
+
+unfoldable pub checkBeside : ℕ → List ℕ → Given → Given → Check
+checkBeside beside s file start = firstOf (rowsBeside beside s file start)
+
+-- a sheet by itself
+abbrev pub sheetRows : List ℕ → Given → Given → List Row
+sheetRows s file start = rowsBeside 0 s file start
+
+abbrev pub checkOf : List ℕ → Given → Given → Check
+checkOf s file start = checkBeside 0 s file start
+
+-- a sheet with the registers that it declares after it, four bytes each
+abbrev pub inputOf : List ℕ → Check
+inputOf x = checkBeside 4 x Absent Absent
 
 -- ---- what a sheet that passed has
 -- a word that can be run on n registers
@@ -114,7 +153,7 @@ pub record WordReady (n : ℕ) (w : Word) : Type 0 where
 -- a sheet that can be run on a file of n registers
 pub record Ready (s : List ℕ) (n : ℕ) : Type 0 where
   pub long : 4 ≤ length s
-  pub whole : length s ≡ 4 + 6 * wordsOf s
+  pub whole : 4 + 6 * wordsOf s ≤ length s
   pub some : 0 < declaredOf s
   pub few : declaredOf s ≤ 64
   pub file : declaredOf s ≤ n

@@ -1,11 +1,13 @@
 // Sheets: the header, the words, and the reasons for which a sheet is refused.
+use chip::Word;
 use reasons::Check;
 use reasons::Reason;
 ghost use mathlib.Core.Path.{_≡_};
-ghost use Prim.Native.Nat.{_+_, _*_, _^_, _≤_};
+ghost use Prim.Native.Nat.{_+_, _*_, _≤_};
 ghost use lib.ListN.{length};
 ghost use Rattle.reasons.specs.Reasons.{firstOf, noneHold, rowsBy};
-ghost use Rattle.sheet.specs.Sheet.{number4, countOf, registersOf, wordsOf, declaredOf, partOf, numberAt, sheetOf, badHeader, fewer, above, numberRows, wordRows, headRows, checkOf};
+ghost use Rattle.packing.specs.Registers.{Narrow};
+ghost use Rattle.sheet.specs.Sheet.{number4, countOf, registersOf, wordsOf, declaredOf, partOf, numberAt, wordAt, executionsOf, sheetOf, badHeader, fewer, numberRows, wordRows, headRows, startRows, checkBeside, checkOf, inputOf};
 
 // Which of two lent sheets a word comes from.
 pub enum Which {
@@ -21,19 +23,12 @@ pub enum Given {
 
 // ---- the header and the words
 
-// Four bytes as one number, the first highest.
-fn joined_header(b0: u8, b1: u8, b2: u8, b3: u8) -> u32
-    ensures { λ r. ⌜ r ≡ b0 * 2 ^ 24 + b1 * 2 ^ 16 + b2 * 2 ^ 8 + b3 ⌝ }
-{
-    b0 as u32 * 0x100_0000 + b1 as u32 * 0x1_0000 + b2 as u32 * 0x100 + b3 as u32
-}
-
 // The header as one number.
 fn header(s: &[u8]) -> u32
     requires { ⌜ 4 ≤ length (now s) ⌝ }
     ensures { λ r. ⌜ r ≡ number4 (now (s .entry)) ⌝ }
 {
-    joined_header(s[0], s[1], s[2], s[3])
+    bits::four_bytes(s[0], s[1], s[2], s[3])
 }
 
 // The word count of a header.
@@ -56,6 +51,14 @@ pub fn words(s: &[u8]) -> usize
     ensures { λ r. ⌜ r ≡ wordsOf (now (s .entry)) ⌝ }
 {
     count(header(s))
+}
+
+// How many executions: one for each word. Public for the crates above, which have checked the sheet.
+pub fn executions(s: &[u8]) -> usize
+    requires { ⌜ 4 ≤ length (now s) ⌝ }
+    ensures { λ r. ⌜ r ≡ length (executionsOf (now (s .entry))) ⌝ }
+{
+    words(s)
 }
 
 // How many registers it declares. Public for the crates above, which have checked the sheet.
@@ -88,6 +91,22 @@ pub fn fetch<'a>(main: &'a [u8], handler: &'a [u8], from: Which, index: usize) -
     }
 }
 
+// The number of a word of one of two sheets.
+fn number_at<'a>(main: &'a [u8], handler: &'a [u8], from: Which, index: usize) -> u64
+    requires { ⌜ 4 + 6 * index + 6 ≤ length (sheetOf from (now main) (now handler)) ⌝ }
+    ensures { λ r. ⌜ r ≡ numberAt (sheetOf from (now (main .entry)) (now (handler .entry))) index ⌝ }
+{
+    packing::word_number(fetch(main, handler, from, index))
+}
+
+// The fields of a word of one of two sheets: the one way from a sheet's bytes to a word. Public for the crates above, as `fetch` is.
+pub fn word_at<'a>(main: &'a [u8], handler: &'a [u8], from: Which, index: usize) -> Word
+    requires { ⌜ 4 + 6 * index + 6 ≤ length (sheetOf from (now main) (now handler)) ⌝ }
+    ensures { λ r. ⌜ (r ≡ wordAt (sheetOf from (now (main .entry)) (now (handler .entry))) index) × Narrow r ⌝ }
+{
+    packing::fields(number_at(main, handler, from, index))
+}
+
 // ---- its reasons
 
 // Whether zero bits of the header are set, or its register count is 0 or above 64.
@@ -108,19 +127,26 @@ fn lends_fewer(file: Given, n: usize) -> bool
     }
 }
 
-// Whether a start word is given and lies above n.
-fn starts_above(start: Given, n: usize) -> bool
-    ensures { λ r. ⌜ r ≡ above start n ⌝ }
+// Reason 10: a start is given and lies above n.
+fn check_position(start: Given, n: usize) -> Check
+    ensures { λ r. ⌜ r ≡ firstOf (startRows start n) ⌝ }
 {
-    match start {
-        Given::Absent => false,
-        Given::Number(word) => n < word,
+    let Given::Number(at) = start else {
+        return Check::Good;
+    };
+    if n < at {
+        return Check::Bad {
+            reason: Reason::Start,
+            place: 0,
+        };
     }
+    Check::Good
 }
 
-// Reasons 4 to 7 of a sheet of `len` bytes whose header is h.
-fn check_header(len: usize, h: u32, file: Given) -> Check
-    ensures { λ r. ⌜ r ≡ firstOf (headRows len h file) ⌝ }
+// Reasons 4 to 7 of `len` bytes whose header is h, with so many bytes beside the sheet for each register that it declares.
+fn check_header(beside: usize, len: usize, h: u32, file: Given) -> Check
+    requires { ⌜ beside ≤ 4 ⌝ }
+    ensures { λ r. ⌜ r ≡ firstOf (headRows beside len h file) ⌝ }
 {
     if h >> 28 != 1 {
         return Check::Bad {
@@ -134,13 +160,14 @@ fn check_header(len: usize, h: u32, file: Given) -> Check
             place: 0,
         };
     }
-    if len != 4 + 6 * count(h) {
+    let n = registers(h) as usize;
+    if len != 4 + 6 * count(h) + beside * n {
         return Check::Bad {
             reason: Reason::Length,
             place: 0,
         };
     }
-    if lends_fewer(file, registers(h) as usize) {
+    if lends_fewer(file, n) {
         return Check::Bad {
             reason: Reason::File,
             place: 0,
@@ -175,20 +202,12 @@ fn check_number(v: u64, n: u32, k: usize) -> Check
     Check::Good
 }
 
-// The number of word k.
-fn number_at(s: &[u8], k: usize) -> u64
-    requires { ⌜ 4 + 6 * k + 6 ≤ length (now s) ⌝ }
-    ensures { λ r. ⌜ r ≡ numberAt (now (s .entry)) k ⌝ }
-{
-    packing::word_number(part(s, k))
-}
-
 // Reasons 8, 1 and 9 of word k, from the sheet's bytes.
 fn check_word(s: &[u8], n: u32, k: usize) -> Check
     requires { ⌜ 4 + 6 * k + 6 ≤ length (now s) ⌝ }
     ensures { λ r. ⌜ r ≡ firstOf (wordRows (now (s .entry)) n k) ⌝ }
 {
-    check_number(number_at(s, k), n, k)
+    check_number(number_at(s, s, Which::Main, k), n, k)
 }
 
 // The words in order: the first fault of the first word that has one.
@@ -223,7 +242,7 @@ fn all_sound(s: &[u8], count: usize, n: u32) -> bool
     let mut good = true;
     let mut next: usize = 0;
     while next < count {
-        good = good & sound(number_at(s, next), n);
+        good = good & sound(number_at(s, s, Which::Main, next), n);
         next += 1;
     }
     good
@@ -241,8 +260,9 @@ fn check_words(s: &[u8], count: usize, n: u32) -> Check
 }
 
 // The whole table: 3 to 7, then the words, then 10.
-fn check(s: &[u8], file: Given, start: Given) -> Check
-    ensures { λ r. ⌜ r ≡ checkOf (now (s .entry)) file start ⌝ }
+fn check(beside: usize, s: &[u8], file: Given, start: Given) -> Check
+    requires { ⌜ beside ≤ 4 ⌝ }
+    ensures { λ r. ⌜ r ≡ checkBeside beside (now (s .entry)) file start ⌝ }
 {
     if s.len() < 4 {
         return Check::Bad {
@@ -251,41 +271,41 @@ fn check(s: &[u8], file: Given, start: Given) -> Check
         };
     }
     let h = header(s);
-    let head = check_header(s.len(), h, file);
+    let head = check_header(beside, s.len(), h, file);
     if let Check::Bad { reason, place } = head {
         return Check::Bad { reason, place };
     }
-    let last = count(h);
-    let body = check_words(s, last, registers(h));
+    let body = check_words(s, count(h), registers(h));
     if let Check::Bad { reason, place } = body {
         return Check::Bad { reason, place };
     }
-    if starts_above(start, last) {
-        return Check::Bad {
-            reason: Reason::Start,
-            place: 0,
-        };
-    }
-    Check::Good
+    check_position(start, executions(s))
 }
 
 // A sheet on its own: no file is lent and no start word given, so 7 and 10 are skipped.
 pub fn check_sheet(s: &[u8]) -> Check
     ensures { λ r. ⌜ r ≡ checkOf (now (s .entry)) Given.Absent Given.Absent ⌝ }
 {
-    check(s, Given::Absent, Given::Absent)
+    check(0, s, Given::Absent, Given::Absent)
 }
 
 // A sheet with a file of `lent` registers, and no start word.
 pub fn check_on_file(s: &[u8], lent: usize) -> Check
     ensures { λ r. ⌜ r ≡ checkOf (now (s .entry)) (Given.Number lent) Given.Absent ⌝ }
 {
-    check(s, Given::Number(lent), Given::Absent)
+    check(0, s, Given::Number(lent), Given::Absent)
 }
 
-// A sheet with a file of `lent` registers, started at word `start`.
+// A sheet with a file of `lent` registers, started at execution `start`.
 pub fn check_start(s: &[u8], lent: usize, start: usize) -> Check
     ensures { λ r. ⌜ r ≡ checkOf (now (s .entry)) (Given.Number lent) (Given.Number start) ⌝ }
 {
-    check(s, Given::Number(lent), Given::Number(start))
+    check(0, s, Given::Number(lent), Given::Number(start))
+}
+
+// A sheet with the registers that it declares after it, four bytes each, as the trace reads them. Public for the trace.
+pub fn check_input(x: &[u8]) -> Check
+    ensures { λ r. ⌜ r ≡ inputOf (now (x .entry)) ⌝ }
+{
+    check(4, x, Given::Absent, Given::Absent)
 }

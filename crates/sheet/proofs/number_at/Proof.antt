@@ -8,15 +8,15 @@ use borrow.Author.Needs.{needs}
 use Rattle.sheet.proofs.number_at.Statement.{statement}
 use Rattle.sheet.proofs.number_at.Tie as tie
 
-part-requires : tie.Need-part-requires
-part-requires c κs = search needs
+fetch-requires : tie.Need-fetch-requires
+fetch-requires c κs = search needs
 
 word-number-requires : tie.Need-word-number-requires
-word-number-requires c κs = omega (arith, ap length (c .part .ensures) ∙ part-six _ _ (c .before .before .pre))
+word-number-requires c κs = omega (arith, ap length (c .fetch .ensures) ∙ part-six _ _ (c .before .before .before .pre))
 
 returns : tie.Need-returns
 unfolding numberAt
-returns c = rw (c .word-number .ensures, c .before .part .ensures)
+returns c = rw (c .word-number .ensures, c .before .fetch .ensures)
 
 pub number-at-spec : {M : Type 1} → statement M
-number-at-spec = tie.close (tie.spec part-requires word-number-requires returns)
+number-at-spec = tie.close (tie.spec fetch-requires word-number-requires returns)

@@ -1,0 +1,18 @@
+-- Sources and target together. Assumes nothing.
+use borrow.Author.Needs.{needs}
+use Rattle.packing.specs.Registers.{namesOf}
+use Rattle.packing.proofs.names.Statement.{statement}
+use Rattle.packing.proofs.names.Tie as tie
+
+sources-requires : tie.Need-sources-requires
+sources-requires c κs = search needs
+
+target-requires : tie.Need-target-requires
+target-requires c κs = search needs
+
+returns : tie.Need-returns
+unfolding namesOf
+returns c = rw (c .target .ensures, c .before .sources .ensures)
+
+pub names-spec : {M : Type 1} → statement M
+names-spec = tie.close (tie.spec sources-requires target-requires returns)
