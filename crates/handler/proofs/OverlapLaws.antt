@@ -1,96 +1,94 @@
--- The table of 64 says which registers a sheet names. Assumes nothing.
-use mathlib.Core.Path.{_≡_, refl, sym, ap, _∙_}
+-- The registers that words of a sheet name, one more word at a time; and the two sheets' sets meet exactly where some row of the table
+-- holds. Assumes nothing.
+use mathlib.Core.Path.{_≡_, refl, sym, ap, ap₂, _∙_}
 use mathlib.Core.List.{List, [], _∷_}
-use mathlib.Core.Bool.{Bool, true, false, _||_}
-use Prim.Native.Nat.{ℕ, zero, suc, _+_, _-_, _≤_, _<_}
+use mathlib.Core.Bool.{Bool, true, false, not, _&&_, _||_, or-false}
+use Prim.Native.Nat.{ℕ, zero, suc, _+_, _-_, _^_, _≤_, _<_}
 use native.Mathlib.Omega.{arith}
-use native.Mathlib.Decide.{ℕ-discrete}
-use borrow.Author.Tests.{eq-eqb, ne-eqb}
-use lib.Dec.{eqb}
-use lib.ListN.{length, getD, set, replicate, length-set, length-replicate, getD-replicate}
-use lib.Seq.{getD-set-same, getD-set-other}
-use Rattle.chip.specs.declared.Word.{Word}
-use Rattle.packing.specs.Packing.{some, named, fieldsOf}
-use Rattle.sheet.specs.Sheet.{wordAt}
-use Rattle.handler.specs.Overlap.{names, namedBy, markAll, markFrom, tableOf, marked}
+use lib.Bits.{bitOr, or-lt, or-zero-r, and-zero-l}
+use lib.Dec.{lit<}
+use Rattle.reasons.specs.Reasons.{firstOf, noneHold, rowsBy}
+use Rattle.reasons.specs.declared.Check.the-variants.{Good}
+use Rattle.reasons.proofs.Rows.{hold-good, good-hold}
+use Rattle.packing.specs.Packing.{differ}
+use Rattle.packing.specs.Registers.{common, namesOf, namesAll}
+use Rattle.packing.proofs.Registers.{common-or, union-assoc, names-lt, narrow}
+use Rattle.sheet.specs.Sheet.{wordsOf, numberAt, wordAt, wordsFrom, namesIn}
+use Rattle.handler.specs.Overlap.{overlapRow, overlapOf}
 
--- ---- one more word
-pub mark-more : (h t : List ℕ) (k n : ℕ) → k < n → markFrom h t k (n - k) ≡ markFrom h (markAll t (named (wordAt h k))) (k + 1) (n - (k + 1))
-unfolding markFrom
-mark-more h t k n i =
-    let e : n - k ≡ suc (n - (k + 1)) = omega arith in
-    rw e refl
+pub word-lt : (s : List ℕ) (k : ℕ) → namesOf (wordAt s k) < 2 ^ 64
+word-lt s k = names-lt (wordAt s k) (narrow (numberAt s k))
 
-pub mark-none : (h t : List ℕ) (k n : ℕ) → n ≤ k → markFrom h t k (n - k) ≡ t
-unfolding markFrom
-mark-none h t k n i =
-    let e : n - k ≡ 0 = omega arith in
-    rw e refl
+pub words-lt : (s : List ℕ) (k n : ℕ) → namesAll (wordsFrom s k n) < 2 ^ 64
+unfolding namesAll wordsFrom
+words-lt s k zero = lit< tt
+words-lt s k (suc n) = or-lt 64 _ _ (word-lt s k) (words-lt s (k + 1) n)
 
--- ---- what stands in the table
--- 1 where a test holds
-abbrev upOr : Bool → ℕ → ℕ
-upOr true d = 1
-upOr false d = d
+-- ---- what holds at each turn of the pass: the whole is what was met, and what is left
+pub record Gathering (s : List ℕ) (n set k : ℕ) : Type 0 where
+  pub upto : k ≤ n
+  pub small : set < 2 ^ 64
+  pub whole : namesAll (wordsFrom s 0 n) ≡ bitOr set (namesAll (wordsFrom s k (n - k)))
 
-up-up : (a b : Bool) (d : ℕ) → upOr b (upOr a d) ≡ upOr (a || b) d
-up-up true true d = refl
-up-up true false d = refl
-up-up false b d = refl
+pub gathering-start : (s : List ℕ) (n : ℕ) → Gathering s n 0 0
+gathering-start s n =
+    let e : n - 0 ≡ n = omega arith in
+    record { upto = omega arith; small = lit< tt; whole = ap (λ (j : ℕ). namesAll (wordsFrom s 0 j)) (sym e) }
 
-set-up : (t : List ℕ) (x r : ℕ) → r < length t → getD (set t x 1) r 0 ≡ upOr (eqb r x) (getD t r 0)
-set-up t x r i = go (ℕ-discrete r x)
+module _ {s : List ℕ} {n set k : ℕ} (g : Gathering s n set k) where
+  pub gathering-more : (names : ℕ) → k < n → names ≡ namesOf (wordAt s k) → Gathering s n (bitOr set names) (k + 1)
+  unfolding namesAll wordsFrom
+  gathering-more names h e =
+      let f : n - k ≡ suc (n - (k + 1)) = omega arith in
+      let rest : ℕ = namesAll (wordsFrom s (k + 1) (n - (k + 1))) in
+      record {
+        upto = omega arith;
+        small = rw e (or-lt 64 set (namesOf (wordAt s k)) (g .small) (word-lt s k));
+        whole =
+            g .whole ∙ ap (λ (j : ℕ). bitOr set (namesAll (wordsFrom s k j))) f
+            ∙ sym (union-assoc set (namesOf (wordAt s k)) rest (g .small) (word-lt s k) (words-lt s (k + 1) (n - (k + 1))))
+            ∙ ap (λ (x : ℕ). bitOr (bitOr set x) rest) (sym e);
+      }
+
+  pub gathering-done : n ≤ k → set ≡ namesAll (wordsFrom s 0 n)
+  unfolding namesAll wordsFrom
+  gathering-done h =
+      let f : n - k ≡ 0 = omega arith in
+      sym (g .whole ∙ ap (λ (j : ℕ). bitOr set (namesAll (wordsFrom s k j))) f ∙ or-zero-r set)
+
+-- ---- the two sets meet exactly where some row holds
+none-common : (t : ℕ) → common 0 t ≡ false
+unfolding common
+none-common t = ap (λ (x : ℕ). differ x 0) (and-zero-l t)
+
+meet-rows : (s : List ℕ) (theirs k n : ℕ) → theirs < 2 ^ 64 → common (namesAll (wordsFrom s k n)) theirs ≡ not (noneHold (rowsBy (overlapRow s theirs) k n))
+unfolding namesAll wordsFrom
+meet-rows s theirs k zero h = none-common theirs
+meet-rows s theirs k (suc n) h =
+    common-or (namesOf (wordAt s k)) (namesAll (wordsFrom s (k + 1) n)) theirs (word-lt s k) (words-lt s (k + 1) n) h
+    ∙ ap (λ (b : Bool). common (namesOf (wordAt s k)) theirs || b) (meet-rows s theirs (k + 1) n h)
+    ∙ either (common (namesOf (wordAt s k)) theirs) (noneHold (rowsBy (overlapRow s theirs) (k + 1) n))
   where
-    go : Dec (r ≡ x) → getD (set t x 1) r 0 ≡ upOr (eqb r x) (getD t r 0)
-    go (yes e) = rw (eq-eqb r x e, ← e) (getD-set-same t r 1 0 i)
-    go (no e) = rw (ne-eqb r x e) (getD-set-other t x r 1 0 e)
+    either : (a b : Bool) → (a || not b) ≡ not (not a && b)
+    either true b = refl
+    either false b = refl
 
-marks-length : (t rs : List ℕ) → length (markAll t rs) ≡ length t
-marks-length t [] = refl
-marks-length t (x ∷ rs) = marks-length (set t x 1) rs ∙ length-set t x 1
+module _ (main h : List ℕ) where
+  abbrev theirs : ℕ
+  theirs = namesIn h
 
-marks-up : (t rs : List ℕ) (r : ℕ) → r < length t → getD (markAll t rs) r 0 ≡ upOr (some (eqb r) rs) (getD t r 0)
-marks-up t [] r i = refl
-marks-up t (x ∷ rs) r i =
-    marks-up (set t x 1) rs r (simp length-set i) ∙ ap (upOr (some (eqb r) rs)) (set-up t x r i)
-    ∙ up-up (eqb r x) (some (eqb r) rs) (getD t r 0)
+  meet-is : common (namesIn main) theirs ≡ not (noneHold (rowsBy (overlapRow main theirs) 0 (wordsOf main)))
+  meet-is = meet-rows main theirs 0 (wordsOf main) (words-lt h 0 (wordsOf h))
 
-from-up : (h t : List ℕ) (k m r : ℕ) → r < length t → getD (markFrom h t k m) r 0 ≡ upOr (namedBy h k m r) (getD t r 0)
-unfolding markFrom namedBy
-from-up h t k zero r i = refl
-from-up h t k (suc m) r i =
-    from-up h (markAll t (named (wordAt h k))) (k + 1) m r (rw (marks-length t (named (wordAt h k))) i)
-    ∙ ap (upOr (namedBy h (k + 1) m r)) (marks-up t (named (wordAt h k)) r i)
-    ∙ up-up (names (wordAt h k) r) (namedBy h (k + 1) m r) (getD t r 0)
+  -- so where they do not meet nothing is refused, and the other way round
+  pub apart-good : common (namesIn main) theirs ≡ false → Good ≡ overlapOf main h
+  unfolding overlapOf
+  apart-good e = sym (hold-good (rowsBy (overlapRow main theirs) 0 (wordsOf main)) (flip _ (sym meet-is ∙ e)))
+    where
+      flip : (b : Bool) → not b ≡ false → b ≡ true
+      flip true f = refl
+      flip false f = sym f
 
-up-one : (b : Bool) → eqb (upOr b 0) 1 ≡ b
-up-one true = refl
-up-one false = refl
-
-pub marked-is : (h : List ℕ) (n r : ℕ) → r < 64 → marked (tableOf h n) r ≡ namedBy h 0 n r
-marked-is h n r i =
-    ap (λ (x : ℕ). eqb x 1)
-    (from-up h (replicate 64 0) 0 n r (simp length-replicate i) ∙ ap (upOr (namedBy h 0 n r)) (getD-replicate 64 r 0 0 i))
-    ∙ up-one (namedBy h 0 n r)
-
--- ---- the registers of a word of a sheet are below 64: their fields have six bits
-pub record Narrow (w : Word) : Type 0 where
-  pub a : w .a < 64
-  pub b : w .b < 64
-  pub y : w .y < 64
-
-pub narrow : (s : List ℕ) (k : ℕ) → Narrow (wordAt s k)
-unfolding fieldsOf
-narrow s k = record { a = omega arith; b = omega arith; y = omega arith }
-
--- so asking the table is asking the sheet
-pub asked : (h : List ℕ) (n : ℕ) (w : Word) → Narrow w → some (marked (tableOf h n)) (named w) ≡ some (namedBy h 0 n) (named w)
-asked h n w f = rw (marked-is h n (w .a) (f .a), marked-is h n (w .b) (f .b), marked-is h n (w .y) (f .y)) refl
-
--- what the code's test of main word k says
-pub told : (main h : List ℕ) (n k : ℕ) (t : List ℕ) (w : Word) (b : Bool) → t ≡ tableOf h n → w ≡ wordAt main k → b ≡ some (marked t) (named w)
-    → some (namedBy h 0 n) (named (wordAt main k)) ≡ b
-told main h n k t w b e f g =
-    sym
-    (g ∙ ap (λ (x : List ℕ). some (marked x) (named w)) e ∙ ap (λ (v : Word). some (marked (tableOf h n)) (named v)) f
-    ∙ asked h n (wordAt main k) (narrow main k))
+  pub good-apart : overlapOf main h ≡ Good → common (namesIn main) theirs ≡ false
+  unfolding overlapOf
+  good-apart e = meet-is ∙ ap not (good-hold (rowsBy (overlapRow main theirs) 0 (wordsOf main)) e)

@@ -106,7 +106,24 @@ common-or s t u hs ht hu = ap (λ (x : ℕ). differ x 0) spread ∙ apart (bitAn
     apart (suc x) y =
         some (bitOr (suc x) y) (omega (arith, or-add-and (suc x) y, and-le-r (suc x) y)) ∙ sym (ap (λ (b : Bool). b || differ y 0) (some (suc x) (omega arith)))
 
+-- unions of sets of 64 registers
+pub union-assoc : (s t u : ℕ) → s < 2 ^ 64 → t < 2 ^ 64 → u < 2 ^ 64 → bitOr (bitOr s t) u ≡ bitOr s (bitOr t u)
+union-assoc s t u hs ht hu =
+    bit-ext 64 (bitOr (bitOr s t) u) (bitOr s (bitOr t u)) (or-lt 64 (bitOr s t) u (or-lt 64 s t hs ht) hu) (or-lt 64 s (bitOr t u) hs (or-lt 64 t u ht hu))
+    (λ i l. bit-or i (bitOr s t) u ∙ ap (λ (x : ℕ). max x (bitOf i u)) (bit-or i s t) ∙ each (bitOf i s) (bitOf i t) (bitOf i u)
+    ∙ sym (bit-or i s (bitOr t u) ∙ ap (max (bitOf i s)) (bit-or i t u)))
+  where
+    each : (x y z : ℕ) → max (max x y) z ≡ max x (max y z)
+    each x y z = omega arith
+
 -- ---- the registers that a word names
+pub only-lt : (r : ℕ) → r < 64 → only r < 2 ^ 64
+only-lt r h = pow-lt h
+
+pub names-lt : (w : Word) → Narrow w → namesOf w < 2 ^ 64
+unfolding namesOf sourcesOf targetOf
+names-lt w n = or-lt 64 _ _ (or-lt 64 _ _ (only-lt (w .a) (n .a)) (only-lt (w .b) (n .b))) (only-lt (w .y) (n .y))
+
 pub names-a : (w : Word) → isIn (namesOf w) (w .a) ≡ true
 unfolding namesOf sourcesOf targetOf
 names-a w = simp (in-or, in-only)

@@ -37,6 +37,13 @@ hold-good (r ∷ rs) e = go (r .holds) e (hold-good rs)
     go true f i = absurd (true≢false (sym f))
     go false f i = i f
 
+pub good-hold : (a : List Row) → firstOf a ≡ Good → noneHold a ≡ true
+good-hold a e = go a (good-none a e)
+  where
+    go : (a : List Row) → None a → noneHold a ≡ true
+    go [] n = refl
+    go (r ∷ rs) (more h n) = rw h (go rs n)
+
 -- which goes part by part
 hold-append : (a b : List Row) → noneHold (a ++ b) ≡ (noneHold a && noneHold b)
 hold-append [] b = refl

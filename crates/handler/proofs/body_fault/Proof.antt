@@ -1,12 +1,18 @@
--- Three fields, as the code nests them. Assumes nothing.
-use Rattle.handler.specs.Form.{saved, bodyFault}
-use Rattle.packing.proofs.Numbers.{some-three}
+-- What the word names is asked. Assumes nothing.
+use Rattle.handler.specs.Form.{bodyFault}
+use borrow.Author.Needs.{needs}
 use Rattle.handler.proofs.body_fault.Statement.{statement}
 use Rattle.handler.proofs.body_fault.Tie as tie
 
+names-requires : tie.Need-names-requires
+names-requires c κs = search needs
+
+meet-requires : tie.Need-meet-requires
+meet-requires c κs = search needs
+
 returns : tie.Need-returns
 unfolding bodyFault
-returns c = let a = c .before .before .before .before .before .before .args in some-three (saved (a .s) (a .q)) (a .w .a) (a .w .b) (a .w .y)
+returns c = rw (c .meet .ensures, c .before .names .ensures)
 
 pub body-fault-spec : {M : Type 1} → statement M
-body-fault-spec = tie.close (tie.spec returns)
+body-fault-spec = tie.close (tie.spec names-requires meet-requires returns)

@@ -7,12 +7,25 @@ use Rattle.handler.proofs.giving_back_fault.Tie as tie
 not-fixed-requires : tie.Need-not-fixed-requires
 not-fixed-requires c κs = search needs
 
-one-saved-requires : tie.Need-one-saved-requires
-one-saved-requires c κs = search needs
+only-requires : tie.Need-only-requires
+only-requires c κs = search needs
+
+target-requires : tie.Need-target-requires
+target-requires c κs = search needs
+
+meet-requires : tie.Need-meet-requires
+meet-requires c κs = search needs
 
 returns : tie.Need-returns
 unfolding givingBackFault
-returns c = rw (c .one-saved .ensures, c .before .before .not-fixed .ensures)
+returns c = rw (c .meet .ensures, c .before .target .ensures, c .before .before .only .ensures, c .before .before .before .before .not-fixed .ensures)
 
 pub giving-back-fault-spec : {M : Type 1} → statement M
-giving-back-fault-spec = tie.close (tie.spec not-fixed-requires one-saved-requires returns)
+giving-back-fault-spec =
+    tie.close
+    (tie.spec
+    not-fixed-requires
+    only-requires
+    target-requires
+    meet-requires
+    returns)

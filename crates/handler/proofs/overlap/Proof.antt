@@ -1,91 +1,60 @@
--- The loop's invariant: the table of all main words answers as that of the words left, from word k on. The measure is the words left. Assumes nothing.
-use mathlib.Core.Path.{_≡_, refl, sym, subst, _∙_}
-use mathlib.Core.Bool.{true, false}
-use Prim.Native.Nat.{_-_, _≤_}
-use Rattle.reasons.specs.Reasons.{firstOf, rowsBy}
-use Rattle.reasons.specs.declared.Reason.the-variants.{Overlap}
-use Rattle.reasons.proofs.Rows.{rows-bad, rows-good}
-use Rattle.packing.specs.Packing.{some, named}
-use Rattle.sheet.specs.Sheet.{wordAt}
-use Rattle.handler.specs.Overlap.{namedBy, overlapRow, overlapOf}
-use Rattle.handler.proofs.OverlapLaws.{Narrow, narrow, told}
-use Rattle.handler.proofs.FormLaws.{row-holds, row-passes}
-use native.Mathlib.Omega.{arith}
+-- Where the sets do not meet no row holds; else the first is looked for. Assumes nothing.
+use mathlib.Core.Path.{sym, ap, ap₂, _∙_}
+use Prim.Native.Nat.{ℕ}
 use denote.Ref.{now}
+use Rattle.reasons.specs.Reasons.{firstOf, rowsBy}
+use Rattle.packing.specs.Registers.{common, namesAll}
+use Rattle.sheet.specs.Sheet.{wordsFrom}
+use Rattle.handler.specs.Overlap.{overlapRow, overlapOf}
+use Rattle.handler.proofs.OverlapLaws.{apart-good}
+use borrow.Author.Needs.{needs}
 use Rattle.handler.proofs.overlap.Statement.{statement}
 use Rattle.handler.proofs.overlap.Tie as tie
 
-abbrev Inv-loop : tie.InvT-loop
-Inv-loop main m h n marks k₀ k = (k ≤ m) × (firstOf (rowsBy (overlapRow main h n) 0 m) ≡ firstOf (rowsBy (overlapRow main h n) k (m - k)))
+words-requires : tie.Need-words-requires
+words-requires c κs = search needs
 
-abbrev μ-loop : tie.MeasureT-loop
-μ-loop main m h n marks k₀ k = m - k
+words-requires-2 : tie.Need-words-requires-2
+words-requires-2 c κs = search needs
 
-table-requires : tie.Need-table-requires Inv-loop μ-loop
-table-requires c κs = c .before .before .pre .1
+names-in-requires : tie.Need-names-in-requires
+names-in-requires c κs = search needs
 
-loop-holds : tie.Need-loop-holds Inv-loop μ-loop
-loop-holds c =
-    let a = c .before .before .before .args in
-    let e : a .m - 0 ≡ a .m = omega arith in
-    (omega arith, rw e refl)
+names-in-requires-2 : tie.Need-names-in-requires-2
+names-in-requires-2 c κs = search needs
 
-word-at-requires : tie.Need-word-at-requires Inv-loop μ-loop
-word-at-requires c κs = omega (arith, c .before .before .before .before .before .before .pre)
+meet-requires : tie.Need-meet-requires
+meet-requires c κs = search needs
 
-names-marked-requires : tie.Need-names-marked-requires Inv-loop μ-loop
-names-marked-requires c κs =
-    let a = c .before .before .before .before .before .before .before .args in
-    let n : Narrow (c .word-at .result) = subst Narrow (sym (c .word-at .ensures)) (narrow (now (a .main)) (c .before .before .before .loop .k)) in
-    (n .a, n .b, n .y)
+first-sharing-requires : tie.Need-first-sharing-requires
+first-sharing-requires c κs = search needs
 
-returns : tie.Need-returns Inv-loop μ-loop
+returns : tie.Need-returns
 unfolding overlapOf
 returns c =
-    let a = c .before .before .before .before .before .before .before .before .before .args in
-    let l = c .before .before .before .before .before .loop in
-    let main = now (a .main) in
-    let h = now (a .h) in
-    let e : some (namedBy h 0 (a .n)) (named (wordAt main (l .k))) ≡ true =
-    told main h (a .n) (l .k) _ _ _ (c .before .before .before .before .before .before .table .ensures) (c .before .before .word-at .ensures) (c .before .names-marked .ensures) ∙ c .if1 .taken in
-    sym (l .inv .1 ∙ rows-bad (overlapRow main h (a .n)) (l .k) (a .m) Overlap (l .k) (c .before .before .before .before .loop-test .taken) (row-holds _ Overlap (l .k) e))
+    let n = c .before .before .before .before in
+    let a = n .before .before .before .before .before .args in
+    let theirs = n .names-in .ensures ∙ ap (λ (k : ℕ). namesAll (wordsFrom (now (a .h)) 0 k)) (n .before .words2 .ensures) in
+    c .first-sharing .ensures
+    ∙ ap₂ (λ (m t : ℕ). firstOf (rowsBy (overlapRow (now (a .main)) t) 0 m)) (n .before .before .words .ensures) theirs
 
-add-k : tie.Need-add-k Inv-loop μ-loop
-add-k c = omega arith
-
-loop-less : tie.Need-loop-less Inv-loop μ-loop
-loop-less c = omega arith
-
-loop-again : tie.Need-loop-again Inv-loop μ-loop
-loop-again c =
-    let a = c .before .before .before .before .before .before .before .before .before .args in
-    let l = c .before .before .before .before .before .loop in
-    let main = now (a .main) in
-    let h = now (a .h) in
-    let e : some (namedBy h 0 (a .n)) (named (wordAt main (l .k))) ≡ false =
-    told main h (a .n) (l .k) _ _ _ (c .before .before .before .before .before .before .table .ensures) (c .before .before .word-at .ensures) (c .before .names-marked .ensures) ∙ c .if1 .left in
-    (omega arith, l .inv .1 ∙ rows-good (overlapRow main h (a .n)) (l .k) (a .m) (c .before .before .before .before .loop-test .taken) (row-passes _ Overlap (l .k) e))
-
-returns-2 : tie.Need-returns-2 Inv-loop μ-loop
-unfolding overlapOf
+returns-2 : tie.Need-returns-2
 returns-2 c =
-    let a = c .before .before .before .before .before .args in
-    let l = c .before .loop in
-    let e : a .m - l .k ≡ 0 = omega arith in
-    sym (l .inv .1 ∙ rw e refl)
+    let n = c .before .before .before in
+    let a = n .before .before .before .before .before .args in
+    let theirs = n .names-in .ensures ∙ ap (λ (k : ℕ). namesAll (wordsFrom (now (a .h)) 0 k)) (n .before .words2 .ensures) in
+    let ours = c .before .before .names-in2 .ensures ∙ ap (λ (k : ℕ). namesAll (wordsFrom (now (a .main)) 0 k)) (n .before .before .words .ensures) in
+    apart-good (now (a .main)) (now (a .h)) (sym (c .before .meet .ensures ∙ ap₂ common ours theirs) ∙ c .if1 .left)
 
 pub overlap-spec : {M : Type 1} → statement M
 overlap-spec =
     tie.close
     (tie.spec
-    Inv-loop
-    μ-loop
-    table-requires
-    loop-holds
-    word-at-requires
-    names-marked-requires
+    words-requires
+    words-requires-2
+    names-in-requires
+    names-in-requires-2
+    meet-requires
+    first-sharing-requires
     returns
-    add-k
-    loop-less
-    loop-again
     returns-2)
