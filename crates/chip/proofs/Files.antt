@@ -6,16 +6,35 @@ use native.Mathlib.Decide.{ℕ-discrete, decLt}
 use native.Mathlib.Omega.{arith}
 use lib.ListN.{length, getD, set, length-set}
 use lib.Seq.{getD-set-same, getD-set-other, set-out}
-use Rattle.chip.specs.Lists.{readAt, storeAt}
+use Rattle.machine.specs.declared.Core.{Core}
+use Rattle.machine.specs.declared.Inputs.{Inputs}
+use Rattle.chip.specs.declared.Word.{Word}
+use Rattle.chip.specs.Lists.{state, readAt, storeAt, inputsOf}
 
--- what the code reads and stores in a lent slice
-pub read-is : (file : List ℕ) (r : ℕ) → getD file r 0 ≡ readAt file r
-unfolding readAt
-read-is file r = refl
-
+-- what the code stores in a lent slice
 pub store-is : (file : List ℕ) (r y : ℕ) → set file r y ≡ storeAt file r y
 unfolding storeAt
 store-is file r y = refl
+
+-- what stands at the chip, from registers that were read in a lent slice
+pub inputs-read : (w : Word) (file : List ℕ) (core : Core)
+    → _≡_ {A = Inputs}
+    (record {
+      code = w .code;
+      position = w .position;
+      width = w .width;
+      select = w .select;
+      carry = w .carry;
+      link = w .link;
+      borrow = w .borrow;
+      a = getD file (w .a) 0;
+      b = getD file (w .b) 0;
+      q = core .q;
+      status = core .status;
+    })
+    (inputsOf w (state file core))
+unfolding readAt
+inputs-read w file core = refl
 
 -- a file of 32-bit words is in range
 pub read-small : (file : List ℕ) → ((r : ℕ) → getD file r 0 < 2 ^ 32) → (r : ℕ) → readAt file r < 2 ^ 32

@@ -1,84 +1,74 @@
 -- The two ways in which a run ends; running in parts equals running at once; and a run has one outcome. Assumes nothing.
-use mathlib.Core.Path.{_≡_, ap, ap₂, sym, _∙_}
+use mathlib.Core.Path.{_≡_, ap, ap₂, sym, subst, _∙_}
 use mathlib.Core.List.{List, [], _∷_, _++_}
 use Prim.Native.Nat.{ℕ, _+_, _-_, _^_, _≤_, _<_, min}
 use native.Mathlib.Omega.{arith}
-use borrow.Author.Tests.{le-ltb}
-use lib.ListN.{length}
+use lib.ListN.{length, take, drop, length-append, length-take, length-drop}
+use lib.Seq.{take-add, drop-drop}
 use Rattle.machine.specs.declared.Machine.{Machine}
-use Rattle.machine.specs.Status.{asRead, Good}
-use Rattle.machine.proofs.Round.{loaded-read, loaded-good}
+use Rattle.machine.specs.declared.Core.{Core}
+use Rattle.machine.specs.declared.Shown.{Shown}
+use Rattle.machine.specs.Core.{taken, handedBack}
+use Rattle.machine.proofs.Handed.{taken-back, taken-good}
 use Rattle.reasons.specs.declared.Reason.{Reason}
 use Rattle.reasons.specs.declared.Reason.the-variants.{Done}
 use Rattle.reasons.specs.declared.Check.{Check}
 use Rattle.reasons.specs.declared.Check.the-variants.{Good as Passed, Bad}
 use Rattle.chip.specs.declared.Word.{Word}
-use Rattle.chip.specs.Lists.{State, readAt, written, stepOf, execs}
-use Rattle.reasons.specs.Reasons.{Row}
-use Rattle.reasons.proofs.Rows.{None, None.none, None.more, good-none, none-good}
-use Rattle.sheet.specs.Sheet.{wordsOf, declaredOf, sheetRows, checkOf, Ready}
-use Rattle.sheet.specs.declared.Given.{Given}
+use Rattle.chip.specs.Lists.{State, state, readAt, execs}
+use Rattle.chip.proofs.Words.{execs-size, execs-append}
+use Rattle.sheet.specs.Sheet.{executionsOf, between, checkOf}
 use Rattle.sheet.specs.declared.Given.the-variants.{Number}
-use Rattle.sheet.proofs.Table.{body, tail, ready, start-within}
+use Rattle.sheet.proofs.Positions.{all-take, all-drop, take-left, drop-left}
+use Rattle.sheet.proofs.Table.{ready, start-within, start-later}
 use Rattle.run.specs.declared.Going.{Going}
-use Rattle.run.specs.Run.{state, stateOf, outputsOf, entering, handedBack, goingFrom, Sane, wordsFrom, wordsRun, Ended, ended, ran, unless, runOf, Went, Shown, shown, tracedOf}
-use Rattle.run.proofs.Laws.{each-word, execs-size, execs-sane, words-length, in-parts}
+use Rattle.run.specs.Run.{stateOf, entering, goingFrom, Sane, executed, Ended, ended, ran, unless, runOf, Stepped, Went}
+use Rattle.run.proofs.Laws.{each-ready, execs-sane}
 
 -- ---- the two ways in which a run ends
+-- from words that went and are counted, from the start on
+pub went-ran : (ws : List Word) (file : List ℕ) (m : Machine) (l : List ℕ) (c : Core) (g : Going) (h : Machine) → c ≡ taken m
+    → Went ws file (record { core = c; count = 0 }) l g → h ≡ handedBack (g .core)
+    → ended (record { reason = Done; place = g .count; machine = h }) l ≡ ran ws (entering file m)
+went-ran ws file m l c g h ec w eh =
+    let t : stateOf l g ≡ execs ws (entering file m) = w .state ∙ ap (λ (x : Core). execs ws (state file x)) ec in
+    let k : g .count ≡ length ws = w .count ∙ none (length ws) in
+    ap₂ (λ (n : ℕ) (x : Machine). ended (record { reason = Done; place = n; machine = x }) l) k eh
+    ∙ ap (λ (u : State). ended (record { reason = Done; place = length ws; machine = handedBack (u .core) }) (u .file)) t
+  where
+    none : (n : ℕ) → 0 + n ≡ n
+    none n = omega arith
+
+-- the words by another name
+pub went-list : {ws vs : List Word} {l₀ l : List ℕ} {g₀ g : Going} → ws ≡ vs → Went ws l₀ g₀ l g → Went vs l₀ g₀ l g
+went-list {ws} {vs} {l₀} {l} {g₀} {g} e w = subst (λ (us : List Word). Went us l₀ g₀ l g) e w
+
 module _ (s file : List ℕ) (m : Machine) (start allowance : ℕ) where
   pub run-refused : (r : Reason) (p : ℕ) → checkOf s (Number (length file)) (Number start) ≡ Bad r p
       → ended (record { reason = r; place = p; machine = m }) file ≡ runOf s file m start allowance
   unfolding runOf
-  run-refused r p e = sym (ap (λ (c : Check). unless c file m (ran (wordsRun s start allowance) (entering file m))) e)
+  run-refused r p e = sym (ap (λ (c : Check). unless c file m (ran (executed s start allowance) (entering file m))) e)
 
-  pub run-is : checkOf s (Number (length file)) (Number start) ≡ Passed → runOf s file m start allowance ≡ ran (wordsRun s start allowance) (entering file m)
+  pub run-is : checkOf s (Number (length file)) (Number start) ≡ Passed → runOf s file m start allowance ≡ ran (executed s start allowance) (entering file m)
   unfolding runOf
-  run-is e = ap (λ (c : Check). unless c file m (ran (wordsRun s start allowance) (entering file m))) e
+  run-is e = ap (λ (c : Check). unless c file m (ran (executed s start allowance) (entering file m))) e
 
-  -- from the words that went, counted
-  pub run-done : (n : ℕ) (l : List ℕ) (g₀ g : Going) (h : Machine) → checkOf s (Number (length file)) (Number start) ≡ Passed
-      → n ≡ min allowance (wordsOf s - start) → g₀ ≡ goingFrom m → Went (wordsFrom s start (start + n - start)) file g₀ l g
-      → (h .q ≡ g .q) × (h .status ≡ asRead (g .status)) → ended (record { reason = Done; place = g .count; machine = h }) l ≡ runOf s file m start allowance
-  run-done n l g₀ g h e en eg w (eq, ev) =
-      let d : start + n - start ≡ min allowance (wordsOf s - start) = omega arith in
-      let ws : wordsFrom s start (start + n - start) ≡ wordsRun s start allowance = ap (wordsFrom s start) d in
-      let t : stateOf l g ≡ execs (wordsRun s start allowance) (entering file m)
-      = w .state ∙ ap₂ execs ws (ap (stateOf file) eg) in
-      let k : g .count ≡ length (wordsRun s start allowance)
-      = w .count ∙ ap (λ (h : Going). h .count + length (wordsFrom s start (start + n - start))) eg ∙ none _ ∙ ap length ws in
-      (λ i. ended (record { reason = Done; place = k i; machine = record { q = eq i; status = ev i } }) l)
-      ∙ ap (λ (u : State). ended (record { reason = Done; place = length (wordsRun s start allowance); machine = handedBack u }) (u .file)) t
-      ∙ sym (run-is e)
-    where
-      none : (n : ℕ) → 0 + n ≡ n
-      none n = omega arith
-
--- the words run, from the words left
-pub counted : (s : List ℕ) (start allowance n k : ℕ) → n ≡ wordsOf s → k ≡ min allowance (n - start) → k ≡ min allowance (wordsOf s - start)
-counted s start allowance n k e f = f ∙ ap (λ (j : ℕ). min allowance (j - start)) e
+-- the span that the code runs
+pub executed-is : (s : List ℕ) (start allowance n k : ℕ) → n ≡ length (executionsOf s) → k ≡ min allowance (n - start)
+    → between start (start + k) (executionsOf s) ≡ executed s start allowance
+executed-is s start allowance n k e f =
+    let d : start + k - start ≡ k = omega arith in
+    ap (λ (j : ℕ). take j (drop start (executionsOf s))) d
+    ∙ take-left (drop start (executionsOf s)) allowance k (f ∙ ap (λ (j : ℕ). min allowance (j - start)) e ∙ ap (min allowance) (sym (length-drop start (executionsOf s))))
 
 -- ---- running in parts
 -- registers and Q that are words of 32 bits, and any status
 pub entering-sane : (file : List ℕ) (m : Machine) → ((r : ℕ) → readAt file r < 2 ^ 32) → m .q < 2 ^ 32 → Sane (entering file m)
-entering-sane file m f q = record { file = f; q = q; status = loaded-good (m .status) }
+entering-sane file m f q = record { file = f; q = q; status = taken-good m }
 
 -- what is handed back can be handed in
-back : (t : State) → Good (t .status) → entering (t .file) (handedBack t) ≡ t
-back t g = ap (state (t .file) (t .q)) (loaded-read (t .status) g)
-
--- a sheet that passes with one start word passes with any up to its count
-start-later : (s : List ℕ) (file : Given) (start next : ℕ) → checkOf s file (Number start) ≡ Passed → next ≤ wordsOf s → checkOf s file (Number next) ≡ Passed
-unfolding checkOf sheetRows
-start-later s file start next e h =
-    let g : None (sheetRows s file (Number start)) = good-none (sheetRows s file (Number start)) e in
-    none-good (sheetRows s file (Number next)) (go g)
-  where
-    swap : (a : List Row) → None (a ++ tail s file (Number start)) → None (a ++ tail s file (Number next))
-    swap [] t = more (le-ltb (wordsOf s) next h) none
-    swap (r ∷ rs) (more i t) = more i (swap rs t)
-
-    go : None (sheetRows s file (Number start)) → None (sheetRows s file (Number next))
-    go (more h₁ (more h₂ (more h₃ (more h₄ (more h₅ t))))) = more h₁ (more h₂ (more h₃ (more h₄ (more h₅ (swap (body s file (Number start)) t)))))
+pub back : (t : State) → Sane t → entering (t .file) (handedBack (t .core)) ≡ t
+back t g = ap (state (t .file)) (taken-back (t .core) (g .status))
 
 -- a run from what another left, from the word after its last on
 abbrev pub afterwards : List ℕ → ℕ → Ended → ℕ → Ended
@@ -91,74 +81,61 @@ together first second =
 
 module _ (s file : List ℕ) (m : Machine) (start a b : ℕ) (registers : (r : ℕ) → readAt file r < 2 ^ 32) (q : m .q < 2 ^ 32)
     (passed : checkOf s (Number (length file)) (Number start) ≡ Passed) where
-  n₁ : ℕ
-  n₁ = min a (wordsOf s - start)
+  -- the executions left, those of the first run, and the state after it
+  abbrev rest : List Word
+  rest = drop start (executionsOf s)
 
-  n₂ : ℕ
-  n₂ = min b (wordsOf s - (start + n₁))
+  abbrev first : List Word
+  first = take a rest
 
-  t₀ : State
-  t₀ = entering file m
-
-  t₁ : State
-  t₁ = execs (wordsFrom s start n₁) t₀
-
-  within : start ≤ wordsOf s
-  within = start-within s (Number (length file)) start passed
+  abbrev t₁ : State
+  t₁ = execs first (entering file m)
 
   sane : Sane t₁
-  unfolding n₁ t₀ t₁
   sane =
-      let r : Ready s (length file) = ready s (length file) (Number start) passed in
-      execs-sane (declaredOf s) (wordsFrom s start n₁) t₀
-      (each-word (declaredOf s) s start n₁ (λ j lo hi. r .word j (let h : start ≤ wordsOf s = within in omega arith))) (entering-sane file m registers q)
+      execs-sane (length file) first (entering file m) (all-take _ a rest (all-drop _ start (executionsOf s) (each-ready s (length file) (ready s (length file) (Number start) passed))))
+      (entering-sane file m registers q)
 
-  -- Running in parts equals running at once. A run of a words, and from what it left a run of b words more, leave the registers, Q and the
-  -- status that one run of a + b words leaves, and the counts of the two add up to its count.
+  -- those of the second run
+  second-is : executed s (start + length first) b ≡ take b (drop a rest)
+  second-is =
+      ap (take b)
+      (sym (drop-drop (length first) start (executionsOf s)) ∙ drop-left rest a (length first) (length-take a rest))
+
+  -- it is not refused
+  again : checkOf s (Number (length (t₁ .file))) (Number (start + length first)) ≡ Passed
+  again =
+      let h : start ≤ length (executionsOf s) = start-within s (Number (length file)) start passed in
+      let d : length rest ≡ length (executionsOf s) - start = length-drop start (executionsOf s) in
+      let k : length first ≡ min a (length rest) = length-take a rest in
+      ap (λ (n : ℕ). checkOf s (Number n) (Number (start + length first))) (execs-size first (entering file m))
+      ∙ start-later s (Number (length file)) (Number start) (start + length first) passed (omega arith)
+
+  -- Running in parts equals running at once. A run of a executions, and from what it left a run of b more, leave the registers, Q and the
+  -- status that one run of a + b leaves, and the counts of the two add up to its count.
   pub run-in-parts : runOf s file m start (a + b) ≡ together (runOf s file m start a) (afterwards s start (runOf s file m start a) b)
-  unfolding n₁ n₂ t₀ t₁
   run-in-parts =
-      let h : start ≤ wordsOf s = within in
-      let size : length (t₁ .file) ≡ length file = execs-size (wordsFrom s start n₁) t₀ in
-      let again : checkOf s (Number (length (t₁ .file))) (Number (start + n₁)) ≡ Passed
-      = ap (λ (k : ℕ). checkOf s (Number k) (Number (start + n₁))) size ∙ start-later s (Number (length file)) start (start + n₁) passed (omega arith) in
-      let n : min (a + b) (wordsOf s - start) ≡ n₁ + n₂ = omega arith in
-      let k₁ : length (wordsFrom s start n₁) ≡ n₁ = words-length s start n₁ in
-      let k₂ : length (wordsFrom s (start + n₁) n₂) ≡ n₂ = words-length s (start + n₁) n₂ in
-      let k : length (wordsFrom s start (n₁ + n₂)) ≡ length (wordsFrom s start n₁) + length (wordsFrom s (start + n₁) n₂)
-      = words-length s start (n₁ + n₂) ∙ sym (ap₂ _+_ k₁ k₂) in
-      let one : runOf s file m start a ≡ ran (wordsFrom s start n₁) t₀ = run-is s file m start a passed in
-      let two : runOf s (t₁ .file) (handedBack t₁) (start + n₁) b ≡ ran (wordsFrom s (start + n₁) n₂) t₁
-      = run-is s (t₁ .file) (handedBack t₁) (start + n₁) b again ∙ ap (ran (wordsFrom s (start + n₁) n₂)) (back t₁ (sane .status)) in
+      let second : List Word = take b (drop a rest) in
+      let whole : executed s start (a + b) ≡ first ++ second = take-add a b rest in
+      let one : runOf s file m start a ≡ ran first (entering file m) = run-is s file m start a passed in
+      let two : runOf s (t₁ .file) (handedBack (t₁ .core)) (start + length first) b ≡ ran second t₁
+      = run-is s (t₁ .file) (handedBack (t₁ .core)) (start + length first) b again ∙ ap₂ ran second-is (back t₁ sane) in
       run-is s file m start (a + b) passed
-      ∙ ap (λ (j : ℕ). ran (wordsFrom s start j) t₀) n
-      ∙ ap₂ (λ (j : ℕ) (t : State). ended (record { reason = Done; place = j; machine = handedBack t }) (t .file)) k (in-parts s start n₁ n₂ t₀)
-      ∙ ap (together (ran (wordsFrom s start n₁) t₀)) (sym two)
-      ∙ ap (λ (j : ℕ). together (ran (wordsFrom s start n₁) t₀) (runOf s (t₁ .file) (handedBack t₁) (start + j) b)) (sym k₁)
+      ∙ ap (λ (ws : List Word). ran ws (entering file m)) whole
+      ∙ ap₂ (λ (n : ℕ) (t : State). ended (record { reason = Done; place = n; machine = handedBack (t .core) }) (t .file)) (length-append first second) (execs-append first second (entering file m))
+      ∙ ap (together (ran first (entering file m))) (sym two)
       ∙ ap (λ (x : Ended). together x (afterwards s start x b)) (sym one)
 
--- ---- a run looked at word by word
--- A step that is looked at, from what the words before it left, is the next step of the run.
-pub traced-next : (w : Word) (t : State) → Good (t .status)
-    → tracedOf w (t .file) (handedBack t) ≡ shown (record { y = outputsOf w t .y; machine = handedBack (stepOf w t) }) (stepOf w t .file)
-unfolding tracedOf stepOf
-traced-next w t g =
-    ap
-    (λ (u : State).
-    shown (record { y = outputsOf w u .y; machine = record { q = outputsOf w u .q; status = asRead (outputsOf w u .status) } })
-    (written w (outputsOf w u .y) (t .file)))
-    (back t g)
-
 -- ---- one outcome
--- Two outcomes of a span, and two of a step that is looked at, that meet its promise are one.
+-- Two outcomes of a span, and two of a step, that meet its promise are one.
 pub one-span : (ws : List Word) (l₀ : List ℕ) (g₀ : Going) (l k : List ℕ) (g h : Going) → Went ws l₀ g₀ l g → Went ws l₀ g₀ k h → (l ≡ k) × (g ≡ h)
 one-span ws l₀ g₀ l k g h a b =
     let e : stateOf l g ≡ stateOf k h = a .state ∙ sym (b .state) in
     let n : g .count ≡ h .count = a .count ∙ sym (b .count) in
-    (ap (λ (t : State). t .file) e, λ i. record { q = e i .q; status = e i .status; count = n i })
+    (ap (λ (t : State). t .file) e, λ i. record { core = e i .core; count = n i })
 
-pub one-step : (w : Word) (file : List ℕ) (m : Machine) (x y : Shown) → x ≡ tracedOf w file m → y ≡ tracedOf w file m → x ≡ y
-one-step w file m x y e f = e ∙ sym f
+pub one-step : (w : Word) (t : State) (l k : List ℕ) (x y : Shown) → Stepped w t l x → Stepped w t k y → (l ≡ k) × (x ≡ y)
+one-step w t l k x y a b = (ap (λ (u : State). u .file) (a .state ∙ sym (b .state)), a .shown ∙ sym (b .shown))
 
 -- Two outcomes, answer and file together, that meet the promise of a run are one.
 pub one-outcome : (s file : List ℕ) (m : Machine) (start allowance : ℕ) (x y : Ended)

@@ -1,19 +1,20 @@
 // Runs a sheet on a lent file of registers.
 use chip::Word;
+use machine::Core;
 use machine::Inputs;
 use machine::Machine;
-use machine::Outputs;
-use machine::Status;
+use machine::Shown;
 use reasons::Check;
 use reasons::Reason;
 use sheet::Which;
 ghost use mathlib.Core.Path.{_≡_};
 ghost use mathlib.Core.List.{[], _∷_};
-ghost use Prim.Native.Nat.{_+_, _-_, _*_, _^_, _≤_, _<_, min};
+ghost use Prim.Native.Nat.{_+_, _-_, _^_, _≤_, _<_, min};
 ghost use lib.ListN.{length};
-ghost use Rattle.machine.specs.Status.{asRead, Good};
-ghost use Rattle.sheet.specs.Sheet.{sheetOf, wordsOf, wordAt, WordReady, Ready};
-ghost use Rattle.run.specs.Run.{state, Stepped, goingFrom, wordsFrom, Went, ended, runOf, shown, tracedOf};
+ghost use Rattle.machine.specs.Status.{Good};
+ghost use Rattle.chip.specs.Lists.{state};
+ghost use Rattle.sheet.specs.Sheet.{sheetOf, wordsOf, wordAt, executionsOf, between, WordReady, Ready};
+ghost use Rattle.run.specs.Run.{Stepped, Went, ended, runOf};
 
 // What a run answers: done, with the number of words run as its place, or the reason and place of a refusal; Q and status.
 pub struct RunAnswer {
@@ -22,29 +23,23 @@ pub struct RunAnswer {
     pub machine: Machine,
 }
 
-// Q and the status register while words run, and how many have run.
+// What the chip keeps while words run, and how many have run.
 pub struct Going {
-    pub q: u32,
-    pub status: Status,
+    pub core: Core,
     pub count: usize,
-}
-
-// What the trace shows of a word: Y, and Q and status as they are read.
-pub struct Traced {
-    pub y: u32,
-    pub machine: Machine,
 }
 
 // ---- one word
 
 // One word: A and B are read from the file, and Y is stored only when write is 1.
-fn step(word: Word, file: &mut [u32], q: u32, status: Status) -> Outputs
-    requires { ⌜ WordReady (length (now file)) word × Good status ⌝ }
-    ensures { λ r. ⌜ Stepped word (state (now (file .entry)) q status) (now (file .exit)) r ⌝ }
+fn step(word: Word, file: &mut [u32], core: Core) -> Shown
+    requires { ⌜ WordReady (length (now file)) word × Good (core .status) ⌝ }
+    ensures { λ r. ⌜ Stepped word (state (now (file .entry)) core) (now (file .exit)) r ⌝ }
 {
     let a = word.a as usize;
     let b = word.b as usize;
     let y = word.y as usize;
+    let status = core.status;
     let x = Inputs {
         code: word.code,
         position: word.position,
@@ -55,26 +50,35 @@ fn step(word: Word, file: &mut [u32], q: u32, status: Status) -> Outputs
         borrow: word.borrow,
         a: file[a],
         b: file[b],
-        q,
+        q: core.q,
         status,
     };
-    let out = dispatch::operate(word.opcode, x);
+    let shown = dispatch::operate(word.opcode, x).shown();
     if word.write == 1 {
-        file[y] = out.y;
-        return out;
+        file[y] = shown.y;
+        return shown;
     }
-    out
+    shown
 }
 
-// ---- the words one after another
-
-// The fields of a word of one of two sheets, from its six bytes as one number.
-fn word_at<'a>(main: &'a [u8], handler: &'a [u8], of: Which, index: usize) -> Word
-    requires { ⌜ 4 + 6 * index + 6 ≤ length (sheetOf of (now main) (now handler)) ⌝ }
-    ensures { λ r. ⌜ r ≡ wordAt (sheetOf of (now (main .entry)) (now (handler .entry))) index ⌝ }
+// Execution `index` of one of two sheets, and what it shows. Public for the trace, which shows a run word by word: it has checked the sheet, so
+// this checks nothing again.
+pub fn step_at<'a>(
+    main: &'a [u8],
+    handler: &'a [u8],
+    of: Which,
+    index: usize,
+    file: &mut [u32],
+    core: Core,
+) -> Shown
+    requires { ⌜ Ready (sheetOf of (now main) (now handler)) (length (now file)) × Good (core .status) ⌝ }
+    requires { ⌜ index < wordsOf (sheetOf of (now main) (now handler)) ⌝ }
+    ensures { λ r. ⌜ Stepped (wordAt (sheetOf of (now (main .entry)) (now (handler .entry))) index) (state (now (file .entry)) core) (now (file .exit)) r ⌝ }
 {
-    packing::fields(packing::word_number(sheet::fetch(main, handler, of, index)))
+    step(sheet::word_at(main, handler, of, index), file, core)
 }
+
+// ---- the executions one after another
 
 // One more word, of one of two sheets, and one more counted.
 fn advance<'a>(
@@ -85,21 +89,20 @@ fn advance<'a>(
     file: &mut [u32],
     going: Going,
 ) -> Going
-    requires { ⌜ Ready (sheetOf of (now main) (now handler)) (length (now file)) × Good (going .status) ⌝ }
+    requires { ⌜ Ready (sheetOf of (now main) (now handler)) (length (now file)) × Good (going .core .status) ⌝ }
     requires { ⌜ (index < wordsOf (sheetOf of (now main) (now handler))) × (going .count + 1 < 2 ^ 64) ⌝ }
     ensures { λ r. ⌜ Went (wordAt (sheetOf of (now (main .entry)) (now (handler .entry))) index ∷ []) (now (file .entry)) going (now (file .exit)) r ⌝ }
 {
-    let before = going.status;
-    let out = step(word_at(main, handler, of, index), file, going.q, before);
-    let status = out.status;
+    let before = going.core;
+    let shown = step_at(main, handler, of, index, file, before);
+    let core = shown.core;
     Going {
-        q: out.q,
-        status,
+        core,
         count: going.count + 1,
     }
 }
 
-// The words from `from` up to `to` of one of two sheets, counted as they run. Public for the crate above, which has checked both sheets.
+// The executions from `from` up to `to` of one of two sheets, counted as they run. Public for the crate above, which has checked both sheets.
 pub fn span<'a>(
     main: &'a [u8],
     handler: &'a [u8],
@@ -109,9 +112,9 @@ pub fn span<'a>(
     from: usize,
     to: usize,
 ) -> Going
-    requires { ⌜ Ready (sheetOf of (now main) (now handler)) (length (now file)) × Good (going .status) ⌝ }
-    requires { ⌜ (from ≤ to) × (to ≤ wordsOf (sheetOf of (now main) (now handler))) × (going .count + (to - from) < 2 ^ 64) ⌝ }
-    ensures { λ r. ⌜ Went (wordsFrom (sheetOf of (now (main .entry)) (now (handler .entry))) from (to - from)) (now (file .entry)) going (now (file .exit)) r ⌝ }
+    requires { ⌜ Ready (sheetOf of (now main) (now handler)) (length (now file)) × Good (going .core .status) ⌝ }
+    requires { ⌜ (from ≤ to) × (to ≤ length (executionsOf (sheetOf of (now main) (now handler)))) × (going .count + (to - from) < 2 ^ 64) ⌝ }
+    ensures { λ r. ⌜ Went (between from to (executionsOf (sheetOf of (now (main .entry)) (now (handler .entry))))) (now (file .entry)) going (now (file .exit)) r ⌝ }
 {
     let mut at = going;
     let mut index = from;
@@ -131,30 +134,7 @@ fn least(a: usize, b: usize) -> usize
     if a < b { a } else { b }
 }
 
-// Q and the status register taken in, no word counted. Public for the crate above, which runs main list and handler by turns.
-pub fn enter(machine: Machine) -> Going
-    ensures { λ r. ⌜ r ≡ goingFrom machine ⌝ }
-{
-    Going {
-        q: machine.q,
-        status: Status::load(machine.status),
-        count: 0,
-    }
-}
-
-// Q and the status register handed back: bits 13, 14, 15 and 23 are worked out, also where no word ran. Public for the crate above.
-pub fn leave(going: Going) -> Machine
-    requires { ⌜ Good (going .status) ⌝ }
-    ensures { λ r. ⌜ (r .q ≡ going .q) × (r .status ≡ asRead (going .status)) ⌝ }
-{
-    let status = going.status;
-    Machine {
-        q: going.q,
-        status: status.read(),
-    }
-}
-
-// Runs a sheet from word `start` on, at most `allowance` words.
+// Runs a sheet from execution `start` on, at most `allowance` of them.
 pub fn run(
     sheet: &[u8],
     file: &mut [u32],
@@ -172,38 +152,16 @@ pub fn run(
             machine,
         };
     }
-    let count = least(allowance, sheet::words(sheet) - start);
-    let last = span(
-        sheet,
-        sheet,
-        Which::Main,
-        file,
-        enter(machine),
-        start,
-        start + count,
-    );
+    let count = least(allowance, sheet::executions(sheet) - start);
+    let first = Going {
+        core: machine.enter(),
+        count: 0,
+    };
+    let last = span(sheet, sheet, Which::Main, file, first, start, start + count);
+    let core = last.core;
     RunAnswer {
         reason: Reason::Done,
         place: last.count,
-        machine: leave(last),
-    }
-}
-
-// ---- one word, looked at
-
-// Word `index` of a sheet. Public for the trace, which shows a run word by word: it has checked the sheet, so this checks nothing again.
-pub fn traced_step(sheet: &[u8], index: usize, file: &mut [u32], machine: Machine) -> Traced
-    requires { ⌜ Ready (now sheet) (length (now file)) × (index < wordsOf (now sheet)) ⌝ }
-    ensures { λ r. ⌜ shown r (now (file .exit)) ≡ tracedOf (wordAt (now (sheet .entry)) index) (now (file .entry)) machine ⌝ }
-{
-    let word = word_at(sheet, sheet, Which::Main, index);
-    let out = step(word, file, machine.q, Status::load(machine.status));
-    let status = out.status;
-    Traced {
-        y: out.y,
-        machine: Machine {
-            q: out.q,
-            status: status.read(),
-        },
+        machine: core.leave(),
     }
 }

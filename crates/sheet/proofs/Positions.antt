@@ -5,7 +5,7 @@ use Prim.Native.Nat.{ℕ, zero, suc, _+_, _-_, _≤_, _<_, min}
 use native.Mathlib.Nat.{le-of-lt}
 use native.Mathlib.Omega.{arith}
 use native.Mathlib.Decide.{decLt}
-use lib.ListN.{length, take, drop, length-take, length-drop}
+use lib.ListN.{length, take, drop, length-take, length-drop, drop-of-length-le}
 use lib.Seq.{take-all}
 use Rattle.chip.specs.declared.Word.{Word}
 use Rattle.sheet.specs.Sheet.{wordsOf, wordAt, wordsFrom, allWords, executionsOf, between}
@@ -94,6 +94,16 @@ module _ (ws : List Word) where
     where
       smaller : min (b - a) (length ws - a) ≡ b - a
       smaller = omega arith
+
+  pub drop-left : (n k : ℕ) → k ≡ min n (length ws) → drop k ws ≡ drop n ws
+  drop-left n k e = go (decLt n (length ws))
+    where
+      go : Dec (n < length ws) → drop k ws ≡ drop n ws
+      go (yes h) = let f : k ≡ n = omega arith in ap (λ (j : ℕ). drop j ws) f
+      go (no h) =
+          let i : length ws ≤ k = omega arith in
+          let j : length ws ≤ n = omega arith in
+          drop-of-length-le ws i ∙ sym (drop-of-length-le ws j)
 
   -- no more than there are
   pub take-left : (n k : ℕ) → k ≡ min n (length ws) → take k ws ≡ take n ws

@@ -1,77 +1,78 @@
--- A refusal leaves all as it was; else the span goes over the words run, which it counts, and the status is read. Assumes nothing.
+-- A refusal leaves all as it was; else the span goes over the executions of the run, which it counts. Assumes nothing.
 use mathlib.Core.Path.{sym, ap, subst, _∙_}
 use native.Mathlib.Omega.{arith}
 use denote.Ref.{now}
 use lib.ListN.{length}
+use Rattle.machine.specs.declared.Core.{Core}
 use Rattle.machine.specs.Status.{Good}
-use Rattle.machine.proofs.Round.{loaded-good}
+use Rattle.machine.proofs.Handed.{taken-good}
+use Rattle.chip.specs.declared.Word.{Word}
+use mathlib.Core.List.{List}
 use Rattle.sheet.specs.declared.Given.the-variants.{Number}
 use Rattle.sheet.proofs.Table.{ready, start-within}
-use Rattle.run.specs.declared.Going.{Going}
-use Rattle.run.proofs.Parts.{run-refused, run-done, counted}
+use Rattle.run.specs.Run.{Went}
+use Rattle.run.proofs.Parts.{run-refused, run-is, went-ran, went-list, executed-is}
 use borrow.Author.Needs.{needs}
 use Rattle.run.proofs.run.Statement.{statement}
 use Rattle.run.proofs.run.Tie as tie
 
-check-start-requires : tie.Need-check-start-requires
-check-start-requires c κs = search needs
-
-enum-known-check : tie.Need-enum-known-check
-enum-known-check c = search needs
-
 returns : tie.Need-returns
-returns c = let a = c .before .before .before .before .before .before .args in let s = now (a .sheet) in run-refused s (now (a .file)) (a .machine) (a .start) (a .allowance) _ _ (sym (c .before .before .before .check-start .ensures) ∙ c .before .check .given .1)
+returns c =
+    let k = c .before .before .before in
+    let a = k .before .before .before .args in
+    run-refused (now (a .sheet)) (now (a .file)) (a .machine) (a .start) (a .allowance) _ _ (sym (k .check-start .ensures) ∙ c .before .check .given .1)
 
-enum-told : tie.Need-enum-told
-enum-told c = search needs
-
-words-requires : tie.Need-words-requires
-words-requires c κs = let a = c .before .before .before .before .before .args in let s = now (a .sheet) in ready s (length (now (a .file))) (Number (a .start)) (sym (c .before .before .check-start .ensures) ∙ c .enum-told .given .1) .long
+executions-requires : tie.Need-executions-requires
+executions-requires c κs =
+    let k = c .before .before in
+    let a = k .before .before .before .args in
+    ready (now (a .sheet)) (length (now (a .file))) (Number (a .start)) (sym (k .check-start .ensures) ∙ c .enum-told .given .1) .long
 
 sub-least : tie.Need-sub-least
-sub-least c = let a = c .before .before .before .before .before .before .args in let s = now (a .sheet) in omega (arith, c .words .ensures, start-within s (Number (length (now (a .file)))) (a .start) (sym (c .before .before .before .check-start .ensures) ∙ c .before .enum-told .given .1))
-
-least-requires : tie.Need-least-requires
-least-requires c κs = search needs
-
-enter-requires : tie.Need-enter-requires
-enter-requires c κs = search needs
-
-add-span : tie.Need-add-span
-add-span c = search needs
+sub-least c =
+    let k = c .before .before .before in
+    let a = k .before .before .before .args in
+    omega (arith, c .executions .ensures, start-within (now (a .sheet)) (Number (length (now (a .file)))) (a .start) (sym (k .check-start .ensures) ∙ c .before .enum-told .given .1))
 
 span-requires : tie.Need-span-requires
 span-requires c κs =
-    let a = c .before .before .before .before .before .before .before .before .before .args in let s = now (a .sheet) in
-    let h = start-within s (Number (length (now (a .file)))) (a .start) (sym (c .before .before .before .before .before .before .check-start .ensures) ∙ c .before .before .before .before .enum-told .given .1) in
-    let n = counted s (a .start) (a .allowance) _ _ (c .before .before .before .words .ensures) (c .before .before .least .ensures) in
-    ((ready s (length (now (a .file))) (Number (a .start)) (sym (c .before .before .before .before .before .before .check-start .ensures) ∙ c .before .before .before .before .enum-told .given .1), subst (λ (g : Going). Good (g .status)) (sym (c .enter .ensures)) (loaded-good (a .machine .status))), (omega arith, omega arith, omega (arith, ap (λ (g : Going). g .count) (c .enter .ensures), c .before .before .least .ok)))
+    let e = c .before .before .before in
+    let k = e .before .before .before in
+    let a = k .before .before .before .args in
+    let passed = sym (k .check-start .ensures) ∙ e .before .enum-told .given .1 in
+    let h = start-within (now (a .sheet)) (Number (length (now (a .file)))) (a .start) passed in (
+      (ready (now (a .sheet)) (length (now (a .file))) (Number (a .start)) passed, subst (λ (x : Core). Good (x .status)) (sym (c .before .enter .ensures)) (taken-good (a .machine))),
+      (omega arith, omega (arith, e .executions .ensures, c .before .before .least .ensures), omega (arith, c .before .before .least .ok)),
+    )
 
 leave-requires : tie.Need-leave-requires
-leave-requires c κs = c .before .before .span .ensures .status
-
-same-length : tie.Need-same-length
-same-length c = search needs
+leave-requires c κs = c .before .before .before .span .ensures .status
 
 returns-2 : tie.Need-returns-2
 returns-2 c =
-    let a = c .before .before .before .before .before .before .before .before .before .before .before .before .before .args in let s = now (a .sheet) in
-    run-done s (now (a .file)) (a .machine) (a .start) (a .allowance) _ _ _ _ _ (sym (c .before .before .before .before .before .before .before .before .before .before .check-start .ensures) ∙ c .before .before .before .before .before .before .before .before .enum-told .given .1) (counted s (a .start) (a .allowance) _ _ (c .before .before .before .before .before .before .before .words .ensures) (c .before .before .before .before .before .before .least .ensures)) (c .before .before .before .before .enter .ensures) (c .before .before .before .span .ensures) (c .leave .ensures)
+    let n = c .before .before .before .before in
+    let e = n .before .before .before .before in
+    let k = e .before .before .before in
+    let a = k .before .before .before .args in
+    let s = now (a .sheet) in
+    went-ran _ (now (a .file)) (a .machine) _ _ _ _ (n .before .before .enter .ensures)
+    (went-list (executed-is s (a .start) (a .allowance) _ _ (e .executions .ensures) (n .before .before .before .least .ensures)) (n .span .ensures)) (c .leave .ensures)
+    ∙ sym (run-is s (now (a .file)) (a .machine) (a .start) (a .allowance) (sym (k .check-start .ensures) ∙ e .before .enum-told .given .1))
 
 pub run-spec : {M : Type 1} → statement M
 run-spec =
     tie.close
     (tie.spec
-    check-start-requires
-    enum-known-check
+    (search needs)
+    (search needs)
     returns
-    enum-told
-    words-requires
+    (search needs)
+    executions-requires
     sub-least
-    least-requires
-    enter-requires
-    add-span
+    (search needs)
+    (search needs)
+    (search needs)
     span-requires
     leave-requires
-    same-length
+    (search needs)
     returns-2)
