@@ -5,14 +5,18 @@ use mathlib.Core.List.{List, [], _∷_}
 use Prim.Native.Nat.{ℕ, zero, suc, _<_}
 use lib.ListN.{length}
 use Rattle.bits.specs.Bits.{choose}
-use Rattle.machine.specs.declared.Outputs.{Outputs}
+use Rattle.machine.specs.declared.Core.{Core}
+use Rattle.machine.specs.declared.Shown.{Shown}
 use Rattle.chip.specs.declared.Word.{Word}
-use Rattle.chip.specs.Lists.{State, readAt, storeAt, written, stepOf, execs}
-use Rattle.chip.proofs.Facts.{read-same, read-other, store-agree}
-use Rattle.run.specs.Run.{Sane, outputsOf}
-use Rattle.run.proofs.Laws.{step-sane, step-size}
-use Rattle.interrupt.specs.Owners.{All, Names, Same}
-use Rattle.interrupt.specs.Owners.All.{none, more}
+use Rattle.chip.specs.Lists.{State, readAt, storeAt, written, shownOf, stepOf, execs}
+use Rattle.chip.proofs.Files.{read-same, read-other, store-agree}
+use Rattle.chip.proofs.Words.{step-size}
+use Rattle.packing.proofs.Registers.{names-a, names-b, names-y}
+use Rattle.run.specs.Run.{Sane}
+use Rattle.run.proofs.Laws.{step-sane}
+use Rattle.sheet.proofs.Positions.{All}
+use Rattle.sheet.proofs.Positions.All.{none, more}
+use Rattle.interrupt.proofs.Owners.{Names, Same}
 
 -- ---- one word
 -- a register that is not Y stays
@@ -20,9 +24,9 @@ pub step-other : (w : Word) (t : State) (r : ℕ) → (r ≡ w .y → ⊥) → r
 unfolding stepOf
 step-other w t r h = go (w .write)
   where
-    go : (k : ℕ) → readAt (choose k (t .file) (storeAt (t .file) (w .y) (outputsOf w t .y))) r ≡ readAt (t .file) r
+    go : (k : ℕ) → readAt (choose k (t .file) (storeAt (t .file) (w .y) (shownOf w t .y))) r ≡ readAt (t .file) r
     go zero = refl
-    go (suc k) = read-other (t .file) (w .y) (outputsOf w t .y) r h
+    go (suc k) = read-other (t .file) (w .y) (shownOf w t .y) r h
 
 -- with no write all stay
 pub step-reads : (w : Word) (t : State) → w .write ≡ 0 → stepOf w t .file ≡ t .file
@@ -30,50 +34,44 @@ unfolding stepOf
 step-reads w t h = rw h refl
 
 -- Y is stored
-pub step-stores : (w : Word) (t : State) → w .write ≡ 1 → w .y < length (t .file) → readAt (stepOf w t .file) (w .y) ≡ outputsOf w t .y
+pub step-stores : (w : Word) (t : State) → w .write ≡ 1 → w .y < length (t .file) → readAt (stepOf w t .file) (w .y) ≡ shownOf w t .y
 unfolding stepOf
-step-stores w t h i = rw h (read-same (t .file) (w .y) (outputsOf w t .y) i)
+step-stores w t h i = rw h (read-same (t .file) (w .y) (shownOf w t .y) i)
 
 -- Q and the status after a step
-pub step-q : (w : Word) (t : State) → stepOf w t .q ≡ outputsOf w t .q
+pub step-core : (w : Word) (t : State) → stepOf w t .core ≡ shownOf w t .core
 unfolding stepOf
-step-q w t = refl
-
-pub step-status : (w : Word) (t : State) → stepOf w t .status ≡ outputsOf w t .status
-unfolding stepOf
-step-status w t = refl
+step-core w t = refl
 
 -- ---- two states that agree on what a word names
-outputs-same : (P : ℕ → Type 0) (w : Word) (t u : State) → Names P w → Same P t u → outputsOf w t ≡ outputsOf w u
-outputs-same P w t u n s =
-    let f : readAt (t .file) (w .a) ≡ readAt (u .file) (w .a) = s .agree .same (w .a) (n .a) in
-    let g : readAt (t .file) (w .b) ≡ readAt (u .file) (w .b) = s .agree .same (w .b) (n .b) in
-    let q : t .q ≡ u .q = s .q in
-    let d : t .status ≡ u .status = s .status in
-    rw (f, g, q, d) refl
+shown-same : (P : ℕ → Type 0) (w : Word) (t u : State) → Names P w → Same P t u → shownOf w t ≡ shownOf w u
+shown-same P w t u n s =
+    let f : readAt (t .file) (w .a) ≡ readAt (u .file) (w .a) = s .agree .same (w .a) (n .only (w .a) (names-a w)) in
+    let g : readAt (t .file) (w .b) ≡ readAt (u .file) (w .b) = s .agree .same (w .b) (n .only (w .b) (names-b w)) in
+    let c : t .core ≡ u .core = s .core in
+    rw (f, g, c) refl
 
 pub step-same : (P : ℕ → Type 0) (w : Word) (t u : State) → Names P w → Same P t u → Same P (stepOf w t) (stepOf w u)
 unfolding stepOf
 step-same P w t u n s =
-    let o : outputsOf w t ≡ outputsOf w u = outputs-same P w t u n s in
+    let o : shownOf w t ≡ shownOf w u = shown-same P w t u n s in
     record {
       agree = record {
         size = sized t ∙ s .agree .size ∙ sym (sized u);
         same = λ r p. kept (w .write) r (s .agree .same r p) o;
       };
-      q = ap (λ (x : Outputs). x .q) o;
-      status = ap (λ (x : Outputs). x .status) o;
+      core = ap (λ (x : Shown). x .core) o;
     }
   where
-    sized : (v : State) → length (written w (outputsOf w v .y) (v .file)) ≡ length (v .file)
+    sized : (v : State) → length (written w (shownOf w v .y) (v .file)) ≡ length (v .file)
     sized v = step-size w v
 
-    kept : (k r : ℕ) → readAt (t .file) r ≡ readAt (u .file) r → outputsOf w t ≡ outputsOf w u
-        → readAt (choose k (t .file) (storeAt (t .file) (w .y) (outputsOf w t .y))) r ≡ readAt (choose k (u .file) (storeAt (u .file) (w .y) (outputsOf w u .y))) r
+    kept : (k r : ℕ) → readAt (t .file) r ≡ readAt (u .file) r → shownOf w t ≡ shownOf w u
+        → readAt (choose k (t .file) (storeAt (t .file) (w .y) (shownOf w t .y))) r ≡ readAt (choose k (u .file) (storeAt (u .file) (w .y) (shownOf w u .y))) r
     kept zero r e o = e
     kept (suc k) r e o =
-        ap (λ (x : Outputs). readAt (storeAt (t .file) (w .y) (x .y)) r) o
-        ∙ store-agree (t .file) (u .file) (w .y) (outputsOf w u .y) r (s .agree .size) e
+        ap (λ (x : Shown). readAt (storeAt (t .file) (w .y) (x .y)) r) o
+        ∙ store-agree (t .file) (u .file) (w .y) (shownOf w u .y) r (s .agree .size) e
 
 -- ---- words one after another
 pub execs-same : (P : ℕ → Type 0) (ws : List Word) (t u : State) → All (Names P) ws → Same P t u → Same P (execs ws t) (execs ws u)
@@ -86,7 +84,7 @@ pub execs-other : (P : ℕ → Type 0) (ws : List Word) (t : State) (r : ℕ) �
 unfolding execs
 execs-other P [] t r h none = refl
 execs-other P (w ∷ ws) t r h (more n a) =
-    execs-other P ws (stepOf w t) r h a ∙ step-other w t r (λ e. h (subst P (sym e) (n .y)))
+    execs-other P ws (stepOf w t) r h a ∙ step-other w t r (λ e. h (subst P (sym e) (n .only (w .y) (names-y w))))
 
 -- a state in range stays in range
 pub execs-kept : (P : ℕ → Type 0) (ws : List Word) (t : State) → All (Names P) ws → Sane t → Sane (execs ws t)

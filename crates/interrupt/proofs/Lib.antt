@@ -1,3 +1,4 @@
+pub mod Owners
 pub mod Frame
 pub mod NoTrace
 pub mod Lines

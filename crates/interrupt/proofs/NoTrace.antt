@@ -4,23 +4,44 @@ use mathlib.Core.List.{List, [], _∷_}
 use Prim.Native.Nat.{ℕ, _<_}
 use native.Mathlib.Omega.{arith}
 use lib.ListN.{length}
+use Rattle.machine.specs.declared.Core.{Core}
 use Rattle.machine.specs.declared.Outputs.{Outputs}
+use Rattle.machine.specs.declared.Shown.{Shown}
+use Rattle.machine.specs.declared.Status.{Status}
 use Rattle.machine.specs.Status.{asRead, loaded}
 use Rattle.machine.specs.Inputs.{leaving}
+use Rattle.machine.specs.Core.{shownBy}
+use Rattle.machine.proofs.Round.{loaded-read}
 use Rattle.chip.specs.declared.Word.{Word}
 use Rattle.chip.specs.Glossary.{performOf}
-use Rattle.chip.specs.Lists.{State, readAt, inputsOf, stepOf, execs}
-use Rattle.chip.proofs.Facts.{pass-stat, pass-q, load-q, load-stat, saved-loaded}
-use Rattle.run.specs.Run.{Sane, outputsOf}
-use Rattle.run.proofs.Laws.{step-sane, step-size, execs-size, execs-append}
-use Rattle.interrupt.specs.Owners.{All, Names, Agree, Same, Handler, Line, times}
-use Rattle.interrupt.specs.Owners.All.{none, more}
-use Rattle.interrupt.specs.Owners.Line.{done, next, let-in}
-use Rattle.interrupt.proofs.Frame.{step-other, step-reads, step-stores, step-q, step-status, step-same, execs-same, execs-other, execs-kept}
+use Rattle.chip.specs.Lists.{State, readAt, inputsOf, shownOf, stepOf, execs}
+use Rattle.chip.proofs.Facts.{pass-stat, pass-q, load-q, load-stat}
+use Rattle.chip.proofs.Words.{step-size, execs-size, execs-append}
+use Rattle.packing.proofs.Registers.{names-y}
+use Rattle.run.specs.Run.{Sane}
+use Rattle.run.proofs.Laws.{step-sane}
+use Rattle.sheet.proofs.Positions.{All}
+use Rattle.sheet.proofs.Positions.All.{none, more}
+use Rattle.interrupt.proofs.Owners.{Names, Agree, Same, Handler, Line, times}
+use Rattle.interrupt.proofs.Owners.Line.{done, next, let-in}
+use Rattle.interrupt.proofs.Frame.{step-other, step-reads, step-stores, step-core, step-same, execs-same, execs-other, execs-kept}
 
--- what a fixed word leaves, by its opcode
-does : (w : Word) (n : ℕ) (t : State) → w .opcode ≡ n → outputsOf w t ≡ performOf n (inputsOf w t)
-does w n t e = ap (λ (k : ℕ). performOf k (inputsOf w t)) e
+-- what a fixed word shows, by its opcode and what that leaves
+does : (w : Word) (n : ℕ) (t : State) {o : Outputs} → w .opcode ≡ n → performOf n (inputsOf w t) ≡ o → shownOf w t ≡ shownBy o
+does w n t e f = ap (λ (k : ℕ). shownBy (performOf k (inputsOf w t))) e ∙ ap shownBy f
+
+-- LOADQ-A puts A into Q, and LDSTAT-A into the status
+abbrev core : ℕ → Status → Core
+core q status = record { q = q; status = status }
+
+loads : (w : Word) (t : State) → w .opcode ≡ 0x06 → w .code ≡ 0 → Sane t → stepOf w t .core .q ≡ readAt (t .file) (w .a)
+loads w t e c x =
+    ap (λ (k : Core). k .q) (step-core w t) ∙ ap (λ (k : ℕ). performOf k (inputsOf w t) .q) e
+    ∙ load-q (inputsOf w t) c (x .file (w .a)) (x .q)
+
+loads-stat : (w : Word) (t : State) → w .opcode ≡ 0x1c → w .code ≡ 0 → Sane t → stepOf w t .core ≡ core (t .core .q) (loaded (readAt (t .file) (w .a)))
+loads-stat w t e c x =
+    step-core w t ∙ ap (λ (s : Shown). s .core) (does w 0x1c t e (load-stat (inputsOf w t) c (x .file (w .a)) (x .status)))
 
 module _ (own : ℕ → Type 0) (s q : ℕ) (h : List Word) (F : Handler own s q h) where
   -- the six words and the body, one state after another
@@ -70,32 +91,32 @@ module _ (own : ℕ → Type 0) (s q : ℕ) (h : List Word) (F : Handler own s q
 
   -- Q and the status come back
   module _ (t : State) (sane : Sane t) (s-in : s < length (t .file)) (q-in : q < length (t .file)) where
-    o0 : outputsOf (F .w0) t ≡ leaving (inputsOf (F .w0) t) (asRead (t .status)) (t .status)
+    o0 : shownOf (F .w0) t ≡ shownBy (leaving (inputsOf (F .w0) t) (asRead (t .core .status)) (t .core .status))
     o0 =
         does (F .w0) 0x04 t (F .saves-status .opcode)
-        ∙ pass-stat (inputsOf (F .w0) t) (F .saves-status .code) (sane .file (F .w0 .b)) (sane .status)
+        (pass-stat (inputsOf (F .w0) t) (F .saves-status .code) (sane .file (F .w0 .b)) (sane .status))
 
-    q0 : after0 t .q ≡ t .q
-    q0 = step-q (F .w0) t ∙ ap (λ (o : Outputs). o .q) o0
+    core0 : after0 t .core ≡ t .core
+    core0 = step-core (F .w0) t ∙ ap (λ (x : Shown). x .core) o0
 
-    s0 : readAt (after0 t .file) s ≡ asRead (t .status)
+    s0 : readAt (after0 t .file) s ≡ asRead (t .core .status)
     s0 =
         ap (λ (r : ℕ). readAt (after0 t .file) r) (sym (F .to-s))
         ∙ step-stores (F .w0) t (F .saves-status .write) (subst (λ (r : ℕ). r < length (t .file)) (sym (F .to-s)) s-in)
-        ∙ ap (λ (o : Outputs). o .y) o0
+        ∙ ap (λ (x : Shown). x .y) o0
 
-    o1 : outputsOf (F .w1) (after0 t) ≡ leaving (inputsOf (F .w1) (after0 t)) (after0 t .q) (after0 t .status)
+    o1 : shownOf (F .w1) (after0 t) ≡ shownBy (leaving (inputsOf (F .w1) (after0 t)) (after0 t .core .q) (after0 t .core .status))
     o1 =
         does (F .w1) 0x05 (after0 t) (F .saves-q .opcode)
-        ∙ pass-q (inputsOf (F .w1) (after0 t)) (F .saves-q .code) (sane0 t sane .file (F .w1 .b)) (sane0 t sane .q)
+        (pass-q (inputsOf (F .w1) (after0 t)) (F .saves-q .code) (sane0 t sane .file (F .w1 .b)) (sane0 t sane .q))
 
-    q1 : readAt (after1 t .file) q ≡ t .q
+    q1 : readAt (after1 t .file) q ≡ t .core .q
     q1 =
         ap (λ (r : ℕ). readAt (after1 t .file) r) (sym (F .to-q))
         ∙ step-stores (F .w1) (after0 t) (F .saves-q .write) (subst (λ (r : ℕ). r < length (after0 t .file)) (sym (F .to-q)) (omega (arith, step-size (F .w0) t)))
-        ∙ ap (λ (o : Outputs). o .y) o1 ∙ q0
+        ∙ ap (λ (x : Shown). x .y) o1 ∙ ap (λ (c : Core). c .q) core0
 
-    s1 : readAt (after1 t .file) s ≡ asRead (t .status)
+    s1 : readAt (after1 t .file) s ≡ asRead (t .core .status)
     s1 = step-other (F .w1) (after0 t) s (λ e. F .apart (e ∙ F .to-q)) ∙ s0
 
     -- from there to the last two words no save register is written
@@ -105,32 +126,21 @@ module _ (own : ℕ → Type 0) (s q : ℕ) (h : List Word) (F : Handler own s q
         ∙ ap (λ (l : List ℕ). readAt l r)
         (step-reads (F .w3) (after2 t) (F .loads-status .write) ∙ step-reads (F .w2) (after1 t) (F .loads-q .write))
 
-    qv : after-v1 t .q ≡ t .q
+    qv : after-v1 t .core .q ≡ t .core .q
     qv =
-        step-q (F .v1) (after-body t)
-        ∙ ap (λ (o : Outputs). o .q) (does (F .v1) 0x06 (after-body t) (F .gives-q .opcode))
-        ∙ load-q (inputsOf (F .v1) (after-body t)) (F .gives-q .code) (sane-body t sane .file (F .v1 .a)) (sane-body t sane .q)
+        loads (F .v1) (after-body t) (F .gives-q .opcode) (F .gives-q .code) (sane-body t sane)
         ∙ ap (λ (r : ℕ). readAt (after-body t .file) r) (F .from-q) ∙ kept q (F .q-out) ∙ q1
 
-    sv : readAt (after-v1 t .file) (F .v2 .a) ≡ asRead (t .status)
+    sv : readAt (after-v1 t .file) (F .v2 .a) ≡ asRead (t .core .status)
     sv =
         ap (λ (r : ℕ). readAt (after-v1 t .file) r) (F .from-s)
         ∙ ap (λ (l : List ℕ). readAt l s) (step-reads (F .v1) (after-body t) (F .gives-q .write))
         ∙ kept s (F .s-out) ∙ s1
 
-    o5 : outputsOf (F .v2) (after-v1 t) ≡ leaving (inputsOf (F .v2) (after-v1 t)) (readAt (after-v1 t .file) (F .v2 .a)) (loaded (readAt (after-v1 t .file) (F .v2 .a)))
-    o5 =
-        does (F .v2) 0x1c (after-v1 t) (F .gives-status .opcode)
-        ∙ load-stat (inputsOf (F .v2) (after-v1 t)) (F .gives-status .code) (sane-v1 t sane .file (F .v2 .a)) (sane-v1 t sane .status)
-
-    pub q-back : execs h t .q ≡ t .q
-    q-back =
-        ap (λ (u : State). u .q) (by-words t) ∙ step-q (F .v2) (after-v1 t) ∙ ap (λ (o : Outputs). o .q) o5 ∙ qv
-
-    pub status-back : execs h t .status ≡ t .status
-    status-back =
-        ap (λ (u : State). u .status) (by-words t) ∙ step-status (F .v2) (after-v1 t) ∙ ap (λ (o : Outputs). o .status) o5
-        ∙ ap loaded sv ∙ saved-loaded (t .status) (sane .status)
+    pub core-back : execs h t .core ≡ t .core
+    core-back =
+        ap (λ (u : State). u .core) (by-words t) ∙ loads-stat (F .v2) (after-v1 t) (F .gives-status .opcode) (F .gives-status .code) (sane-v1 t sane)
+        ∙ (λ i. core (qv i) ((ap loaded sv ∙ loaded-read (t .core .status) (sane .status)) i))
 
   -- a register that the handler does not own, and that is no save register, stays
   pub other-stays : (t : State) (r : ℕ) → (own r → ⊥) → (r ≡ s → ⊥) → (r ≡ q → ⊥) → readAt (execs h t .file) r ≡ readAt (t .file) r
@@ -164,22 +174,13 @@ module _ (own : ℕ → Type 0) (s q : ℕ) (h : List Word) (F : Handler own s q
   size3 : (t : State) → length (after3 t .file) ≡ length (t .file)
   size3 t = step-size (F .w3) (after2 t) ∙ step-size (F .w2) (after1 t) ∙ step-size (F .w1) (after0 t) ∙ step-size (F .w0) t
 
-  q2 : (t : State) → Sane t → after2 t .q ≡ readAt (t .file) (F .w2 .a)
-  q2 t x =
-      step-q (F .w2) (after1 t) ∙ ap (λ (o : Outputs). o .q) (does (F .w2) 0x06 (after1 t) (F .loads-q .opcode))
-      ∙ load-q (inputsOf (F .w2) (after1 t)) (F .loads-q .code) (sane1 t x .file (F .w2 .a)) (sane1 t x .q) ∙ start t (F .w2 .a) (F .w2-own)
+  q2 : (t : State) → Sane t → after2 t .core .q ≡ readAt (t .file) (F .w2 .a)
+  q2 t x = loads (F .w2) (after1 t) (F .loads-q .opcode) (F .loads-q .code) (sane1 t x) ∙ start t (F .w2 .a) (F .w2-own)
 
-  o3 : (t : State) → Sane t
-      → outputsOf (F .w3) (after2 t) ≡ leaving (inputsOf (F .w3) (after2 t)) (readAt (after2 t .file) (F .w3 .a)) (loaded (readAt (after2 t .file) (F .w3 .a)))
-  o3 t x =
-      does (F .w3) 0x1c (after2 t) (F .loads-status .opcode)
-      ∙ load-stat (inputsOf (F .w3) (after2 t)) (F .loads-status .code) (sane2 t x .file (F .w3 .a)) (sane2 t x .status)
-
-  q3 : (t : State) → Sane t → after3 t .q ≡ readAt (t .file) (F .w2 .a)
-  q3 t x = step-q (F .w3) (after2 t) ∙ ap (λ (o : Outputs). o .q) (o3 t x) ∙ q2 t x
-
-  status3 : (t : State) → Sane t → after3 t .status ≡ loaded (readAt (t .file) (F .w3 .a))
-  status3 t x = step-status (F .w3) (after2 t) ∙ ap (λ (o : Outputs). o .status) (o3 t x) ∙ ap loaded (start2 t (F .w3 .a) (F .w3-own))
+  core3 : (t : State) → Sane t → after3 t .core ≡ core (readAt (t .file) (F .w2 .a)) (loaded (readAt (t .file) (F .w3 .a)))
+  core3 t x =
+      loads-stat (F .w3) (after2 t) (F .loads-status .opcode) (F .loads-status .code) (sane2 t x)
+      ∙ (λ i. core (q2 t x i) (loaded (start2 t (F .w3 .a) (F .w3-own) i)))
 
   -- the last two words write nothing
   ends : (t : State) (r : ℕ) → readAt (execs h t .file) r ≡ readAt (after-body t .file) r
@@ -195,8 +196,7 @@ module _ (own : ℕ → Type 0) (s q : ℕ) (h : List Word) (F : Handler own s q
           size = size3 t ∙ a .size ∙ sym (size3 u);
           same = λ r o. start3 t r o ∙ a .same r o ∙ sym (start3 u r o);
         };
-        q = q3 t x ∙ a .same (F .w2 .a) (F .w2-own) ∙ sym (q3 u y);
-        status = status3 t x ∙ ap loaded (a .same (F .w3 .a) (F .w3-own)) ∙ sym (status3 u y);
+        core = core3 t x ∙ (λ i. core (a .same (F .w2 .a) (F .w2-own) i) (loaded (a .same (F .w3 .a) (F .w3-own) i))) ∙ sym (core3 u y);
       } in
       let b : Same own (after-body t) (after-body u) = execs-same own (F .body) (after3 t) (after3 u) (F .body-own) entered in
       record {
@@ -207,8 +207,7 @@ module _ (own : ℕ → Type 0) (s q : ℕ) (h : List Word) (F : Handler own s q
 same-trans : (P : ℕ → Type 0) (t u v : State) → Same P t u → Same P u v → Same P t v
 same-trans P t u v a b = record {
   agree = record { size = a .agree .size ∙ b .agree .size; same = λ r p. a .agree .same r p ∙ b .agree .same r p };
-  q = a .q ∙ b .q;
-  status = a .status ∙ b .status;
+  core = a .core ∙ b .core;
 }
 
 -- ---- lines of executions. P: the registers that the main list names. own: those that the handler names, s and q apart
@@ -221,8 +220,7 @@ module _ (P own : ℕ → Type 0) (s q : ℕ) (h : List Word) (F : Handler own s
       size = execs-size h t;
       same = λ r p. other-stays own s q h F t r (apart r p) (λ e. s-apart (subst P e p)) (λ e. q-apart (subst P e p));
     };
-    q = q-back own s q h F t c i j;
-    status = status-back own s q h F t c i j;
+    core = core-back own s q h F t c i j;
   }
 
   -- (a) the registers that the main list names, Q and status end as in its undisturbed run
@@ -246,7 +244,7 @@ module _ (P own : ℕ → Type 0) (s q : ℕ) (h : List Word) (F : Handler own s
   alike (next {w} l) (more n ns) t u c d a =
       alike l ns (stepOf w t) u (step-sane 64 w t (n .ready) c) d (record {
         size = step-size w t ∙ a .size;
-        same = λ r o. step-other w t r (λ e. apart r (subst P (sym e) (n .y)) o) ∙ a .same r o;
+        same = λ r o. step-other w t r (λ e. apart r (subst P (sym e) (n .only (w .y) (names-y w))) o) ∙ a .same r o;
       })
   alike (let-in {ms} {n} {ws} l) ns t u c d a =
       let b : Agree own (execs ws (execs h t)) (execs (times n h) (execs h u))
@@ -259,7 +257,7 @@ module _ (P own : ℕ → Type 0) (s q : ℕ) (h : List Word) (F : Handler own s
   unfolding execs
   untouched done none t r np nh ns nq = refl
   untouched (next {w} l) (more n m) t r np nh ns nq =
-      untouched l m (stepOf w t) r np nh ns nq ∙ step-other w t r (λ e. np (subst P (sym e) (n .y)))
+      untouched l m (stepOf w t) r np nh ns nq ∙ step-other w t r (λ e. np (subst P (sym e) (n .only (w .y) (names-y w))))
   untouched (let-in {ms} {n} {ws} l) m t r np nh ns nq =
       ap (λ (u : State). readAt (u .file) r) (execs-append h ws t) ∙ untouched l m (execs h t) r np nh ns nq
       ∙ other-stays own s q h F t r nh ns nq

@@ -11,11 +11,12 @@ use Rattle.reasons.specs.declared.Reason.{Reason}
 use Rattle.reasons.specs.declared.Reason.the-variants.{Done}
 use Rattle.reasons.specs.declared.Check.{Check}
 use Rattle.reasons.specs.declared.Check.the-variants.{Good, Bad}
-use Rattle.sheet.specs.Sheet.{wordsOf, declaredOf, wordRows, sheetRows, checkOf}
+use Rattle.sheet.specs.Sheet.{wordsOf, declaredOf, executionsOf, wordRows, rowsBeside, checkBeside, sheetRows, checkOf}
 use Rattle.sheet.specs.declared.Given.{Given}
 use Rattle.sheet.specs.declared.Given.the-variants.{Absent, Number}
 use Rattle.sheet.proofs.Table.{tail}
-use Rattle.handler.specs.Form.{savesStatus, savesQ, bodyRow, lastRows, formRows, formOf}
+use Rattle.handler.specs.Form.{savesStatus, savesQ, formRow, formRows, formOf}
+use Rattle.sheet.specs.Sheet.{namesIn}
 use Rattle.handler.specs.Overlap.{overlapRow, overlapOf}
 use Rattle.handler.specs.Schedule.{scheduleRow, scheduleOf}
 use Rattle.interrupt.specs.declared.Verdict.{Verdict}
@@ -50,18 +51,13 @@ unfolding wordRows
 words-tell s n k = (omega arith, (omega arith, (omega arith, tt)))
 
 sheet-tells : (s : List ℕ) (file start : Given) → Telling (sheetRows s file start)
-unfolding sheetRows
+unfolding rowsBeside
 sheet-tells s file start =
     let words : Telling (rowsBy (wordRows s (declaredOf s)) 0 (wordsOf s)) = telling-by (wordRows s (declaredOf s)) 0 (wordsOf s) (words-tell s (declaredOf s)) in
-    (omega arith, (omega arith, (omega arith, (omega arith, (omega arith, telling-on (rowsBy (wordRows s (declaredOf s)) 0 (wordsOf s)) (tail s file start) words (omega arith, tt))))))
+    (omega arith, (omega arith, (omega arith, (omega arith, (omega arith, telling-on (rowsBy (wordRows s (declaredOf s)) 0 (wordsOf s)) (tail 0 s file start) words (omega arith, tt))))))
 
-form-tells : (h : List ℕ) (n : ℕ) → Telling (formRows h n)
-form-tells h n =
-    let s : ℕ = savesStatus h in
-    let q : ℕ = savesQ h in
-    let words : Telling (rowsBy (bodyRow h s q) 4 (n - 6)) = telling-by (bodyRow h s q) 4 (n - 6) (λ j. (omega arith, tt)) in
-    let last : Telling (lastRows h n s q) = (omega arith, (omega arith, tt)) in
-    (omega arith, (omega arith, (omega arith, (omega arith, (omega arith, telling-on (rowsBy (bodyRow h s q) 4 (n - 6)) (lastRows h n s q) words last)))))
+form-tells : (h : List ℕ) → Telling (formRows h)
+form-tells h = (omega arith, telling-by (formRow h (wordsOf h) (savesStatus h) (savesQ h)) 0 (wordsOf h) (λ j. (omega arith, tt)))
 
 -- ---- the verdict
 abbrev Tells : Check → Type 0
@@ -78,17 +74,17 @@ fair-fine : Fair Fine
 fair-fine k r p e = absurd (let z : _≡_ {A = ℕ} 0 1 = cc in omega arith)
 
 check-tells : (s : List ℕ) (file start : Given) → Tells (checkOf s file start)
-unfolding checkOf
+unfolding checkBeside
 check-tells s file start r p e = telling-bad (sheetRows s file start) r p (sheet-tells s file start) e
 
-formed-tells : (h : List ℕ) (n : ℕ) → Tells (formOf h n)
+formed-tells : (h : List ℕ) → Tells (formOf h)
 unfolding formOf
-formed-tells h n r p e = telling-bad (formRows h n) r p (form-tells h n) e
+formed-tells h r p e = telling-bad (formRows h) r p (form-tells h) e
 
-overlap-tells : (main : List ℕ) (m : ℕ) (h : List ℕ) (n : ℕ) → Tells (overlapOf main m h n)
+overlap-tells : (main h : List ℕ) → Tells (overlapOf main h)
 unfolding overlapOf
-overlap-tells main m h n r p e =
-    telling-bad (rowsBy (overlapRow main h n) 0 m) r p (telling-by (overlapRow main h n) 0 m (λ j. (omega arith, tt))) e
+overlap-tells main h r p e =
+    telling-bad (rowsBy (overlapRow main (namesIn h)) 0 (wordsOf main)) r p (telling-by (overlapRow main (namesIn h)) 0 (wordsOf main) (λ j. (omega arith, tt))) e
 
 schedule-tells : (bs : List ℕ) (n : ℕ) → Tells (scheduleOf bs n)
 unfolding scheduleOf
@@ -99,13 +95,12 @@ schedule-tells bs n r p e =
 verdict-fair : (main h schedule : List ℕ) (lent : ℕ) → Fair (verdictOf main h schedule lent)
 unfolding verdictOf pairOf
 verdict-fair main h schedule lent =
+    let n : ℕ = length (executionsOf main) in
     fair-marking inMain (checkOf main (Number lent) Absent) (marking inHandler (checkOf h (Number lent) Absent) (pairOf main h schedule)) (check-tells main (Number lent) Absent)
     (fair-marking inHandler (checkOf h (Number lent) Absent) (pairOf main h schedule) (check-tells h (Number lent) Absent)
-    (fair-marking inHandler (formOf h (wordsOf h)) (marking inMain (overlapOf main (wordsOf main) h (wordsOf h)) (marking inNeither (scheduleOf schedule (wordsOf main)) Fine))
-    (formed-tells h (wordsOf h))
-    (fair-marking inMain (overlapOf main (wordsOf main) h (wordsOf h)) (marking inNeither (scheduleOf schedule (wordsOf main)) Fine)
-    (overlap-tells main (wordsOf main) h (wordsOf h))
-    (fair-marking inNeither (scheduleOf schedule (wordsOf main)) Fine (schedule-tells schedule (wordsOf main)) fair-fine))))
+    (fair-marking inHandler (formOf h) (marking inMain (overlapOf main h) (marking inNeither (scheduleOf schedule n) Fine)) (formed-tells h)
+    (fair-marking inMain (overlapOf main h) (marking inNeither (scheduleOf schedule n) Fine) (overlap-tells main h)
+    (fair-marking inNeither (scheduleOf schedule n) Fine (schedule-tells schedule n) fair-fine))))
 
 -- reason 0: not refused
 pub done-fine : (main h schedule file : List ℕ) (m : Machine) → interruptedOf main h schedule file m .answer .reason ≡ Done

@@ -7,8 +7,10 @@ use native.Mathlib.Decide.{decLt}
 use borrow.Author.Tests.{ltb-false, leb-false}
 use lib.ListN.{length, getD}
 use Rattle.machine.specs.declared.Machine.{Machine}
-use Rattle.machine.specs.Status.{asRead, Good as Sound}
-use Rattle.machine.proofs.Round.{loaded-good}
+use Rattle.machine.specs.declared.Core.{Core}
+use Rattle.machine.specs.Status.{Good as Sound}
+use Rattle.machine.specs.Core.{taken, handedBack}
+use Rattle.machine.proofs.Handed.{taken-good}
 use Rattle.reasons.specs.Reasons.{rowsBy}
 use Rattle.reasons.specs.declared.Reason.{Reason}
 use Rattle.reasons.specs.declared.Reason.the-variants.{Done}
@@ -16,20 +18,20 @@ use Rattle.reasons.specs.declared.Check.{Check}
 use Rattle.reasons.specs.declared.Check.the-variants.{Good, Bad}
 use Rattle.reasons.proofs.Rows.{None, good-none, none-at}
 use Rattle.reasons.proofs.Rows.None.{more}
-use Rattle.chip.specs.Lists.{State, execs}
-use Rattle.sheet.specs.Sheet.{wordsOf, checkOf, Ready}
+use Rattle.sheet.specs.Sheet.{executionsOf, checkOf, Ready}
 use Rattle.sheet.specs.declared.Given.the-variants.{Absent, Number}
 use Rattle.sheet.proofs.Table.{ready}
 use Rattle.run.specs.declared.Going.{Going}
-use Rattle.run.specs.Run.{stateOf, entering, handedBack, goingFrom, Went}
+use Rattle.run.specs.Run.{Ended, entering, ran, Went}
+use Rattle.run.proofs.Parts.{went-ran}
 use Rattle.handler.specs.Form.{formOf}
 use Rattle.handler.specs.Overlap.{overlapOf}
 use Rattle.handler.specs.Schedule.{scheduleOf, scheduleRow}
 use Rattle.interrupt.specs.declared.Verdict.{Verdict}
 use Rattle.interrupt.specs.declared.Verdict.the-variants.{Fine, Refused}
-use Rattle.interrupt.specs.Serve.{lineup, Rising}
+use Rattle.interrupt.specs.Serve.{Rising}
 use Rattle.interrupt.proofs.Lines.{line-short}
-use Rattle.interrupt.specs.Interrupt.{inNeither, inMain, inHandler, marking, pairOf, verdictOf, left, servedBy, unlessRefused, interruptedOf}
+use Rattle.interrupt.specs.Interrupt.{inNeither, inMain, inHandler, marking, pairOf, verdictOf, Left, left, servedBy, unlessRefused, lineOf, interruptedOf}
 
 -- ---- through the order of the reasons
 marking-good : (k : ℕ) (c : Check) (v : Verdict) → marking k c v ≡ Fine → c ≡ Good
@@ -44,18 +46,18 @@ marking-next k (Bad r p) v e = absurd (let z : _≡_ {A = ℕ} 0 1 = cc in omega
 pub record Passed (main h schedule : List ℕ) (lent : ℕ) : Type 0 where
   pub main-good : checkOf main (Number lent) Absent ≡ Good
   pub handler-good : checkOf h (Number lent) Absent ≡ Good
-  pub form : formOf h (wordsOf h) ≡ Good
-  pub overlap : overlapOf main (wordsOf main) h (wordsOf h) ≡ Good
-  pub schedule-good : scheduleOf schedule (wordsOf main) ≡ Good
+  pub form : formOf h ≡ Good
+  pub overlap : overlapOf main h ≡ Good
+  pub schedule-good : scheduleOf schedule (length (executionsOf main)) ≡ Good
 
 pub passed : (main h schedule : List ℕ) (lent : ℕ) → verdictOf main h schedule lent ≡ Fine → Passed main h schedule lent
 unfolding verdictOf pairOf
 passed main h schedule lent e =
     let a : Check = checkOf main (Number lent) Absent in
     let b : Check = checkOf h (Number lent) Absent in
-    let f : Check = formOf h (wordsOf h) in
-    let c : Check = overlapOf main (wordsOf main) h (wordsOf h) in
-    let d : Check = scheduleOf schedule (wordsOf main) in
+    let f : Check = formOf h in
+    let c : Check = overlapOf main h in
+    let d : Check = scheduleOf schedule (length (executionsOf main)) in
     let e₁ = marking-next inMain a (marking inHandler b (pairOf main h schedule)) e in
     let e₂ = marking-next inHandler b (pairOf main h schedule) e₁ in
     let e₃ = marking-next inHandler f (marking inMain c (marking inNeither d Fine)) e₂ in
@@ -99,52 +101,35 @@ module _ (main h schedule file : List ℕ) (m : Machine) where
   pub interrupted-refused : (k : ℕ) (r : Reason) (p : ℕ) → verdictOf main h schedule (length file) ≡ Refused k r p
       → left (record { mark = k; reason = r; place = p; machine = m }) file ≡ interruptedOf main h schedule file m
   unfolding interruptedOf
-  interrupted-refused k r p e = sym (ap (λ (v : Verdict). unlessRefused v file m (servedBy (lineup main h 0 schedule) (entering file m))) e)
+  interrupted-refused k r p e = sym (ap (λ (v : Verdict). unlessRefused v file m (servedBy (lineOf main h schedule) (entering file m))) e)
 
-  pub interrupted-is : verdictOf main h schedule (length file) ≡ Fine → interruptedOf main h schedule file m ≡ servedBy (lineup main h 0 schedule) (entering file m)
+  pub interrupted-is : verdictOf main h schedule (length file) ≡ Fine → interruptedOf main h schedule file m ≡ servedBy (lineOf main h schedule) (entering file m)
   unfolding interruptedOf
-  interrupted-is e = ap (λ (v : Verdict). unlessRefused v file m (servedBy (lineup main h 0 schedule) (entering file m))) e
+  interrupted-is e = ap (λ (v : Verdict). unlessRefused v file m (servedBy (lineOf main h schedule) (entering file m))) e
 
-  -- from the words that went, counted
-  pub interrupted-done : (l : List ℕ) (g₀ g : Going) (v : Machine) → verdictOf main h schedule (length file) ≡ Fine
-      → g₀ ≡ goingFrom m → Went (lineup main h 0 schedule) file g₀ l g → (v .q ≡ g .q) × (v .status ≡ asRead (g .status))
+  -- from the executions that went, counted
+  pub interrupted-done : (l : List ℕ) (c : Core) (g : Going) (v : Machine) → verdictOf main h schedule (length file) ≡ Fine
+      → c ≡ taken m → Went (lineOf main h schedule) file (record { core = c; count = 0 }) l g → v ≡ handedBack (g .core)
       → left (record { mark = inNeither; reason = Done; place = g .count; machine = v }) l ≡ interruptedOf main h schedule file m
-  interrupted-done l g₀ g v e eg w ev =
-      let t : stateOf l g ≡ execs (lineup main h 0 schedule) (entering file m)
-      = w .state ∙ ap (λ (x : Going). execs (lineup main h 0 schedule) (stateOf file x)) eg in
-      let k : g .count ≡ length (lineup main h 0 schedule) = w .count ∙ ap (λ (x : Going). x .count + length (lineup main h 0 schedule)) eg ∙ zeroth _ in
-      let u : v ≡ handedBack (stateOf l g) = λ i. record { q = ev .0 i; status = ev .1 i } in
-      ap₂ (λ (x : Machine) (n : ℕ). left (record { mark = inNeither; reason = Done; place = n; machine = x }) l) u k
-      ∙ ap (λ (x : State). left (record { mark = inNeither; reason = Done; place = length (lineup main h 0 schedule); machine = handedBack x }) (x .file)) t
+  interrupted-done l c g v e ec w ev =
+      ap (λ (x : Ended). left (record { mark = inNeither; reason = x .answer .reason; place = x .answer .place; machine = x .answer .machine }) (x .file))
+      (went-ran (lineOf main h schedule) file m l c g v ec w ev)
       ∙ sym (interrupted-is e)
-    where
-      zeroth : (n : ℕ) → 0 + n ≡ n
-      zeroth n = omega arith
 
 -- ---- the ways of the verdict, in the order of the reasons
 module _ (main h schedule : List ℕ) where
-  pub pair-form : (n : ℕ) (r : Reason) (p : ℕ) → n ≡ wordsOf h → formOf h n ≡ Bad r p → Refused inHandler r p ≡ pairOf main h schedule
+  pub pair-form : (r : Reason) (p : ℕ) → formOf h ≡ Bad r p → Refused inHandler r p ≡ pairOf main h schedule
   unfolding pairOf
-  pair-form n r p e f =
-      let g : formOf h (wordsOf h) ≡ Bad r p = ap (formOf h) (sym e) ∙ f in
-      rw g refl
+  pair-form r p f = rw f refl
 
-  pub pair-overlap : (m n : ℕ) (r : Reason) (p : ℕ) → m ≡ wordsOf main → n ≡ wordsOf h → formOf h n ≡ Good → overlapOf main m h n ≡ Bad r p
-      → Refused inMain r p ≡ pairOf main h schedule
+  pub pair-overlap : (r : Reason) (p : ℕ) → formOf h ≡ Good → overlapOf main h ≡ Bad r p → Refused inMain r p ≡ pairOf main h schedule
   unfolding pairOf
-  pair-overlap m n r p d e f o =
-      let g : formOf h (wordsOf h) ≡ Good = ap (formOf h) (sym e) ∙ f in
-      let u : overlapOf main (wordsOf main) h (wordsOf h) ≡ Bad r p = sym (ap₂ (λ (x y : ℕ). overlapOf main x h y) d e) ∙ o in
-      rw (g, u) refl
+  pair-overlap r p f o = rw (f, o) refl
 
-  pub pair-schedule : (m n : ℕ) (c : Check) → m ≡ wordsOf main → n ≡ wordsOf h → formOf h n ≡ Good → overlapOf main m h n ≡ Good → c ≡ scheduleOf schedule m
+  pub pair-schedule : (n : ℕ) (c : Check) → formOf h ≡ Good → overlapOf main h ≡ Good → n ≡ length (executionsOf main) → c ≡ scheduleOf schedule n
       → marking inNeither c Fine ≡ pairOf main h schedule
   unfolding pairOf
-  pair-schedule m n c d e f o k =
-      let g : formOf h (wordsOf h) ≡ Good = ap (formOf h) (sym e) ∙ f in
-      let u : overlapOf main (wordsOf main) h (wordsOf h) ≡ Good = sym (ap₂ (λ (x y : ℕ). overlapOf main x h y) d e) ∙ o in
-      let w : c ≡ scheduleOf schedule (wordsOf main) = k ∙ ap (scheduleOf schedule) d in
-      rw (g, u, w) refl
+  pair-schedule n c f o e k = rw (f, o, k, e) refl
 
   module _ (lent : ℕ) where
     pub judged-main : (r : Reason) (p : ℕ) → checkOf main (Number lent) Absent ≡ Bad r p → Refused inMain r p ≡ verdictOf main h schedule lent
@@ -161,14 +146,13 @@ module _ (main h schedule : List ℕ) where
     judged-pair e f = rw (e, f) refl
 
 -- what a call that is not refused can be served with
-pub serve-ready : (main h schedule : List ℕ) (lent : ℕ) (m : Machine) (g : Going) → verdictOf main h schedule lent ≡ Fine → g ≡ goingFrom m
-    → (Ready main lent × Ready h lent × Sound (g .status))
-    × (Rising (wordsOf main) 0 schedule × (g .count + length (lineup main h 0 schedule) < 2 ^ 64))
-serve-ready main h schedule lent m g e eg =
+pub serve-ready : (main h schedule : List ℕ) (lent : ℕ) (m : Machine) (c : Core) → verdictOf main h schedule lent ≡ Fine → c ≡ taken m
+    → (Ready main lent × Ready h lent × Sound (c .status))
+    × (Rising (length (executionsOf main)) 0 schedule × (0 + length (lineOf main h schedule) < 2 ^ 64))
+serve-ready main h schedule lent m c e ec =
     let p : Passed main h schedule lent = passed main h schedule lent e in
-    let r : Rising (wordsOf main) 0 schedule = rising schedule (wordsOf main) (p .schedule-good) in
-    let n : length (lineup main h 0 schedule) < 2 ^ 64 = line-short main h schedule r (not-long schedule (wordsOf main) (p .schedule-good)) in
-    let k : g .count ≡ 0 = ap (λ (x : Going). x .count) eg in (
-      (ready main lent Absent (p .main-good), ready h lent Absent (p .handler-good), subst (λ (x : Going). Sound (x .status)) (sym eg) (loaded-good (m .status))),
+    let r : Rising (length (executionsOf main)) 0 schedule = rising schedule (length (executionsOf main)) (p .schedule-good) in
+    let n : length (lineOf main h schedule) < 2 ^ 64 = line-short main h schedule r (not-long schedule (length (executionsOf main)) (p .schedule-good)) in (
+      (ready main lent Absent (p .main-good), ready h lent Absent (p .handler-good), subst (λ (x : Core). Sound (x .status)) (sym ec) (taken-good m)),
       (r, omega arith),
     )

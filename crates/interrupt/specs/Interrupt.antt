@@ -9,9 +9,10 @@ use Rattle.reasons.specs.declared.Check.{Check}
 use Rattle.reasons.specs.declared.Check.the-variants.{Good, Bad}
 use Rattle.chip.specs.declared.Word.{Word}
 use Rattle.chip.specs.Lists.{State, execs}
-use Rattle.sheet.specs.Sheet.{wordsOf, checkOf}
+use Rattle.machine.specs.Core.{handedBack}
+use Rattle.sheet.specs.Sheet.{executionsOf, checkOf}
 use Rattle.sheet.specs.declared.Given.the-variants.{Absent, Number}
-use Rattle.run.specs.Run.{entering, handedBack}
+use Rattle.run.specs.Run.{entering}
 use Rattle.handler.specs.Form.{formOf}
 use Rattle.handler.specs.Overlap.{overlapOf}
 use Rattle.handler.specs.Schedule.{scheduleOf}
@@ -38,9 +39,9 @@ marking k (Bad r p) v = Refused k r p
 -- 11, 12, 13
 unfoldable pub pairOf : List ℕ → List ℕ → List ℕ → Verdict
 pairOf main h schedule =
-    marking inHandler (formOf h (wordsOf h))
-    (marking inMain (overlapOf main (wordsOf main) h (wordsOf h))
-    (marking inNeither (scheduleOf schedule (wordsOf main))
+    marking inHandler (formOf h)
+    (marking inMain (overlapOf main h)
+    (marking inNeither (scheduleOf schedule (length (executionsOf main)))
     Fine))
 
 -- the main sheet's own reasons, the handler sheet's own, then 11, 12, 13; so many registers are lent, and there is no start word
@@ -56,15 +57,19 @@ pub record Left : Type 0 where
 abbrev pub left : Served → List ℕ → Left
 left a file = record { answer = a; file = file }
 
--- done: the place is the number of executions, main and handler words together
+-- done: the place is the number of executions, those of main list and handler together
 abbrev pub servedBy : List Word → State → Left
-servedBy ws t = left (record { mark = inNeither; reason = Done; place = length ws; machine = handedBack (execs ws t) }) (execs ws t .file)
+servedBy ws t = left (record { mark = inNeither; reason = Done; place = length ws; machine = handedBack (execs ws t .core) }) (execs ws t .file)
 
 -- refused: registers, Q and status are as they were, bit for bit
 abbrev pub unlessRefused : Verdict → List ℕ → Machine → Left → Left
 unlessRefused Fine file m e = e
 unlessRefused (Refused k r p) file m e = left (record { mark = k; reason = r; place = p; machine = m }) file
 
+-- the executions of both sheets, in one line
+abbrev pub lineOf : List ℕ → List ℕ → List ℕ → List Word
+lineOf main h schedule = lineup (executionsOf main) (executionsOf h) 0 schedule
+
 unfoldable pub interruptedOf : List ℕ → List ℕ → List ℕ → List ℕ → Machine → Left
 interruptedOf main h schedule file m =
-    unlessRefused (verdictOf main h schedule (length file)) file m (servedBy (lineup main h 0 schedule) (entering file m))
+    unlessRefused (verdictOf main h schedule (length file)) file m (servedBy (lineOf main h schedule) (entering file m))

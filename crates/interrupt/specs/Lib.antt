@@ -1,4 +1,3 @@
-pub mod Owners
 pub mod Serve
 pub mod Interrupt
 pub mod Demand3

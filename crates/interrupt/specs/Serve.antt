@@ -1,18 +1,14 @@
--- The one line of executions of a main sheet with a handler let in at the boundaries of a schedule. Assumes nothing.
+-- The one line of executions of a main list with a handler let in at the boundaries of a schedule. Assumes nothing.
 use mathlib.Core.List.{List, [], _∷_, _++_}
-use Prim.Native.Nat.{ℕ, _-_, _≤_}
+use Prim.Native.Nat.{ℕ, _≤_}
+use lib.ListN.{drop}
 use Rattle.chip.specs.declared.Word.{Word}
-use Rattle.sheet.specs.Sheet.{wordsOf}
-use Rattle.run.specs.Run.{wordsFrom}
+use Rattle.sheet.specs.Sheet.{between}
 
--- all words of a sheet
-abbrev pub whole : List ℕ → List Word
-whole s = wordsFrom s 0 (wordsOf s)
-
--- from main word `at` on: an entry b runs the whole handler after b main words and before the next
-unfoldable pub lineup : List ℕ → List ℕ → ℕ → List ℕ → List Word
-lineup main h at [] = wordsFrom main at (wordsOf main - at)
-lineup main h at (b ∷ bs) = wordsFrom main at (b - at) ++ (whole h ++ lineup main h b bs)
+-- from main execution `at` on: an entry b runs the whole handler after b of them and before the next
+unfoldable pub lineup : List Word → List Word → ℕ → List ℕ → List Word
+lineup main h at [] = drop at main
+lineup main h at (b ∷ bs) = between at b main ++ (h ++ lineup main h b bs)
 
 -- boundaries from `at` to n, none less than its predecessor
 unfoldable pub Rising : ℕ → ℕ → List ℕ → Type 0

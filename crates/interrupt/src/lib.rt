@@ -6,13 +6,13 @@ use run::Going;
 use sheet::Which;
 ghost use mathlib.Core.Path.{_≡_};
 ghost use mathlib.Core.List.{_++_};
-ghost use Prim.Native.Nat.{_+_, _-_, _^_, _≤_, _<_};
+ghost use Prim.Native.Nat.{_+_, _^_, _≤_, _<_};
 ghost use lib.ListN.{length};
 ghost use Rattle.machine.specs.Status.{Good};
-ghost use Rattle.sheet.specs.Sheet.{wordsOf, Ready};
-ghost use Rattle.run.specs.Run.{wordsFrom, Went};
-ghost use Rattle.interrupt.specs.Serve.{whole, lineup, Rising};
-ghost use Rattle.interrupt.specs.Interrupt.{marking, pairOf, verdictOf, left, interruptedOf};
+ghost use Rattle.sheet.specs.Sheet.{executionsOf, between, Ready};
+ghost use Rattle.run.specs.Run.{Went};
+ghost use Rattle.interrupt.specs.Serve.{Rising};
+ghost use Rattle.interrupt.specs.Interrupt.{marking, pairOf, verdictOf, left, lineOf, interruptedOf};
 
 // Whether an interrupted run is refused: the mark of the sheet that the fault is in (0 neither, 1 main, 2 handler), the reason and its place.
 pub enum Verdict {
@@ -53,9 +53,7 @@ fn judge_pair<'a>(main: &'a [u8], handler: &'a [u8], schedule: &[u16], lent: usi
     requires { ⌜ Ready (now main) lent × Ready (now handler) lent ⌝ }
     ensures { λ r. ⌜ r ≡ pairOf (now (main .entry)) (now (handler .entry)) (now (schedule .entry)) ⌝ }
 {
-    let m = sheet::words(main);
-    let n = sheet::words(handler);
-    let form = handler::form(handler, n);
+    let form = handler::form(handler);
     if let Check::Bad { reason, place } = form {
         return Verdict::Refused {
             mark: 2,
@@ -63,7 +61,7 @@ fn judge_pair<'a>(main: &'a [u8], handler: &'a [u8], schedule: &[u16], lent: usi
             place,
         };
     }
-    let overlap = handler::overlap(main, m, handler, n);
+    let overlap = handler::overlap(main, handler);
     if let Check::Bad { reason, place } = overlap {
         return Verdict::Refused {
             mark: 1,
@@ -71,7 +69,11 @@ fn judge_pair<'a>(main: &'a [u8], handler: &'a [u8], schedule: &[u16], lent: usi
             place,
         };
     }
-    then(0, handler::check_schedule(schedule, m), Verdict::Fine)
+    then(
+        0,
+        handler::check_schedule(schedule, sheet::executions(main)),
+        Verdict::Fine,
+    )
 }
 
 // All reasons, in their order.
@@ -99,7 +101,7 @@ fn judge<'a>(main: &'a [u8], handler: &'a [u8], schedule: &[u16], lent: usize) -
 
 // ---- the one line of executions
 
-// The main words from `at` up to boundary `b`, then the n words of the handler.
+// The main executions from `at` up to boundary `b`, then the n executions of the handler.
 fn turn<'a>(
     main: &'a [u8],
     handler: &'a [u8],
@@ -109,16 +111,16 @@ fn turn<'a>(
     b: usize,
     n: usize,
 ) -> Going
-    requires { ⌜ Ready (now main) (length (now file)) × Ready (now handler) (length (now file)) × Good (going .status) ⌝ }
-    requires { ⌜ (at ≤ b) × (b ≤ wordsOf (now main)) × (going .count + (b - at) + wordsOf (now handler) < 2 ^ 64) ⌝ }
-    requires { ⌜ n ≡ wordsOf (now handler) ⌝ }
-    ensures { λ r. ⌜ Went (wordsFrom (now (main .entry)) at (b - at) ++ whole (now (handler .entry))) (now (file .entry)) going (now (file .exit)) r ⌝ }
+    requires { ⌜ Ready (now main) (length (now file)) × Ready (now handler) (length (now file)) × Good (going .core .status) ⌝ }
+    requires { ⌜ (at ≤ b) × (b ≤ length (executionsOf (now main))) × (n ≡ length (executionsOf (now handler))) ⌝ }
+    requires { ⌜ going .count + length (between at b (executionsOf (now main)) ++ executionsOf (now handler)) < 2 ^ 64 ⌝ }
+    ensures { λ r. ⌜ Went (between at b (executionsOf (now (main .entry))) ++ executionsOf (now (handler .entry))) (now (file .entry)) going (now (file .exit)) r ⌝ }
 {
     let first = run::span(main, handler, Which::Main, file, going, at, b);
     run::span(main, handler, Which::Handler, file, first, 0, n)
 }
 
-// The main sheet from word 0 to its end, with the whole handler let in at each boundary.
+// The main sheet from its first execution to its last, with the whole handler let in at each boundary.
 fn serve<'a>(
     main: &'a [u8],
     handler: &'a [u8],
@@ -126,21 +128,21 @@ fn serve<'a>(
     file: &mut [u32],
     going: Going,
 ) -> Going
-    requires { ⌜ Ready (now main) (length (now file)) × Ready (now handler) (length (now file)) × Good (going .status) ⌝ }
-    requires { ⌜ Rising (wordsOf (now main)) 0 (now schedule) × (going .count + length (lineup (now main) (now handler) 0 (now schedule)) < 2 ^ 64) ⌝ }
-    ensures { λ r. ⌜ Went (lineup (now (main .entry)) (now (handler .entry)) 0 (now (schedule .entry))) (now (file .entry)) going (now (file .exit)) r ⌝ }
+    requires { ⌜ Ready (now main) (length (now file)) × Ready (now handler) (length (now file)) × Good (going .core .status) ⌝ }
+    requires { ⌜ Rising (length (executionsOf (now main))) 0 (now schedule) × (going .count + length (lineOf (now main) (now handler) (now schedule)) < 2 ^ 64) ⌝ }
+    ensures { λ r. ⌜ Went (lineOf (now (main .entry)) (now (handler .entry)) (now (schedule .entry))) (now (file .entry)) going (now (file .exit)) r ⌝ }
 {
-    let n = sheet::words(handler);
+    let n = sheet::executions(handler);
     let mut on = going;
     let mut at: usize = 0;
     let mut j: usize = 0;
     while j < schedule.len() {
-        let b = schedule[j] as usize;
+        let b = handler::boundary(schedule, j);
         on = turn(main, handler, file, on, at, b, n);
         at = b;
         j += 1;
     }
-    let end = sheet::words(main);
+    let end = sheet::executions(main);
     run::span(main, handler, Which::Main, file, on, at, end)
 }
 
@@ -168,12 +170,16 @@ pub fn interrupted<'a>(
             machine,
         };
     }
-    let last = serve(main, handler, schedule, file, run::enter(machine));
-    let machine = run::leave(last);
+    let first = Going {
+        core: machine.enter(),
+        count: 0,
+    };
+    let last = serve(main, handler, schedule, file, first);
+    let core = last.core;
     Served {
         mark: 0,
         reason: Reason::Done,
         place: last.count,
-        machine,
+        machine: core.leave(),
     }
 }

@@ -95,6 +95,10 @@ module _ (ws : List Word) where
       smaller : min (b - a) (length ws - a) ≡ b - a
       smaller = omega arith
 
+  -- all that are left
+  pub between-whole : (a b : ℕ) → b ≡ length ws → between a b ws ≡ drop a ws
+  between-whole a b e = take-all (b - a) (drop a ws) (omega (arith, length-drop a ws))
+
   pub drop-left : (n k : ℕ) → k ≡ min n (length ws) → drop k ws ≡ drop n ws
   drop-left n k e = go (decLt n (length ws))
     where

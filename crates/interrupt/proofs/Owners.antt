@@ -2,22 +2,18 @@
 -- list with a handler let in between them. Assumes nothing.
 use mathlib.Core.Path.{_≡_}
 use mathlib.Core.List.{List, [], _∷_, _++_}
+use mathlib.Core.Bool.{true}
 use Prim.Native.Nat.{ℕ, zero, suc}
 use lib.ListN.{length}
 use Rattle.chip.specs.declared.Word.{Word}
 use Rattle.chip.specs.Lists.{State, readAt}
+use Rattle.packing.specs.Registers.{isIn, namesOf}
 use Rattle.sheet.specs.Sheet.{WordReady}
+use Rattle.sheet.proofs.Positions.{All}
 
--- every word of a list
-pub data All (P : Word → Type 0) : List Word → Type 0 where
-  none : All P []
-  more : {w : Word} {ws : List Word} → P w → All P ws → All P (w ∷ ws)
-
--- every field of a word that names a register names one of P; and the word can be run, as no sheet has more than 64 registers
+-- a word names only registers of P; and it can be run, as no sheet has more than 64 registers
 pub record Names (P : ℕ → Type 0) (w : Word) : Type 0 where
-  pub a : P (w .a)
-  pub b : P (w .b)
-  pub y : P (w .y)
+  pub only : (r : ℕ) → isIn (namesOf w) r ≡ true → P r
   pub ready : WordReady 64 w
 
 -- two states with the same registers in P
@@ -28,8 +24,7 @@ pub record Agree (P : ℕ → Type 0) (t u : State) : Type 0 where
 -- and with the same Q and status
 pub record Same (P : ℕ → Type 0) (t u : State) : Type 0 where
   pub agree : Agree P t u
-  pub q : t .q ≡ u .q
-  pub status : t .status ≡ u .status
+  pub core : t .core ≡ u .core
 
 -- a word of this opcode and write, with all four bytes
 pub record Fixed (number stores : ℕ) (w : Word) : Type 0 where
