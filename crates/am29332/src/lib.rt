@@ -6,7 +6,7 @@ use machine::Machine;
 use reasons::Check;
 use reasons::Reason;
 ghost use mathlib.Core.Path.{_≡_};
-ghost use Rattle.machine.specs.Status.{freshOf};
+ghost use Rattle.machine.specs.Core.{freshOf};
 ghost use Rattle.chip.specs.Single.{singleOf};
 ghost use Rattle.packing.specs.Packing.{packOf, unpackOf};
 ghost use Rattle.sheet.specs.Sheet.{checkOf};

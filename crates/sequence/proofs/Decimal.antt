@@ -12,10 +12,10 @@ use Rattle.arithmetic.specs.Nibbles.{nibbleCarries, nibbleBorrows, sixes}
 use Rattle.arithmetic.specs.Arithmetic.{sum, difference, borrowIn}
 use Rattle.arithmetic.specs.Decimal.{sumCorrect, diffCorrect}
 use Rattle.chip.specs.Glossary.{performOf}
-use Rattle.chip.specs.Lists.{State, readAt, storeAt, inputsOf, stepOf, execs}
+use Rattle.chip.specs.Lists.{State, state, readAt, storeAt, inputsOf, stepOf, execs}
 use Rattle.sequence.specs.Sequences.{bitsIn}
 use Rattle.sequence.specs.Decimal.{Digits, value, digitsIn, DecimalOperation, additions, subtractions, Side, Side.at-A, Side.at-B, Layout, wordWith, calculation, correctionAt, decimalWords, facing, Elsewhere, DecimalSum, DecimalDifference, SumExact, DifferenceExact, Each}
-use Rattle.chip.proofs.Facts.{store-length, read-same, read-other}
+use Rattle.chip.proofs.Files.{store-length, read-same, read-other}
 use Rattle.sequence.proofs.Lists.{merged-high, bits-of-bytes}
 use Rattle.sequence.proofs.DecimalNumbers.{SumCorrected, DiffCorrected}
 use Rattle.sequence.proofs.DecimalWords.{sum-at, difference-at}
@@ -23,7 +23,7 @@ use Rattle.sequence.proofs.DecimalWords.{sum-at, difference-at}
 -- ---- the two words on registers
 -- what the first word leaves, from its outputs
 abbrev left : Layout → Outputs → State → State
-left d o t = record { file = storeAt (t .file) (d .y) (o .y); q = o .q; status = o .status }
+left d o t = state (storeAt (t .file) (d .y) (o .y)) (record { q = o .q; status = o .status })
 
 -- what stands at the chip for the correction, but for the side at which it takes the word to correct
 abbrev facing₂ : Layout → State → Inputs
@@ -32,11 +32,8 @@ facing₂ d v = inputsOf (wordWith d 0 (d .y) (d .other) (d .z) (d .fields₂)) 
 -- what a correction f leaves
 abbrev fixed : Layout → (Inputs → ℕ → Outputs) → State → State
 fixed d f v =
-    record {
-      file = storeAt (v .file) (d .z) (f (facing₂ d v) (readAt (v .file) (d .y)) .y);
-      q = f (facing₂ d v) (readAt (v .file) (d .y)) .q;
-      status = f (facing₂ d v) (readAt (v .file) (d .y)) .status;
-    }
+    let o : Outputs = f (facing₂ d v) (readAt (v .file) (d .y)) in
+    state (storeAt (v .file) (d .z) (o .y)) (record { q = o .q; status = o .status })
 
 calculated : (opcode : ℕ) (d : Layout) (t : State) → stepOf (calculation opcode d) t ≡ left d (performOf opcode (inputsOf (calculation opcode d) t)) t
 unfolding stepOf
@@ -67,7 +64,7 @@ module _ (d : Layout) (t : State) (hy : d .y < length (t .file)) (hz : d .z < le
       read-same (after₁ .file) (d .z) _ (subst (λ (k : ℕ). d .z < k) (sym (store-length (t .file) (d .y) (o .y))) hz)
       ∙ ap (λ (s : ℕ). f (facing₂ d after₁) s .y) taken
 
-  elsewhere : (n passing : ℕ) → after₂ .q ≡ t .q → f (facing₂ d after₁) (o .y) .y / 2 ^ n ≡ passing / 2 ^ n → Elsewhere n (d .y) (d .z) passing t after₂
+  elsewhere : (n passing : ℕ) → after₂ .core .q ≡ t .core .q → f (facing₂ d after₁) (o .y) .y / 2 ^ n ≡ passing / 2 ^ n → Elsewhere n (d .y) (d .z) passing t after₂
   elsewhere n passing hq ha =
       record {
         registers = store-length (after₁ .file) (d .z) _ ∙ store-length (t .file) (d .y) (o .y);

@@ -205,7 +205,7 @@ module _ (n code a b : ℕ) (bits : selected code ≡ n) (ab : a ≢ b) (t : Sta
   fits₁ : Fits (bitsOf x₁) (x₁ .a)
   fits₁ = carried-back x₁ n (readAt (t .file) a) bits a₁ Fits fits
 
-  hm : u .status .m < 2
+  hm : u .core .status .m < 2
   hm = flag-m (2 ^ n) (register n a t) (lowQ n t) 0 (view n b u) (r .holds)
 
   reached : Reached n code a b (readAt (t .file) a) bits ab t refl hb (λ s. s ≡ divLast (2 ^ n) (register n a t) (view n b u)) v
@@ -214,20 +214,20 @@ module _ (n code a b : ℕ) (bits : selected code ≡ n) (ab : a ≢ b) (t : Sta
       (λ s. s ≡ view n b u) (λ s. s ≡ divLast (2 ^ n) (register n a t) (view n b u))
       (λ s e. subst FlagM (sym e) hm) (λ s e. ap (divLast (2 ^ n) (register n a t)) e) i u (record { rest = r .rest; holds = refl })
 
-  n-after : v .status .n ≡ F₁ / 2 ^ n
+  n-after : v .core .status .n ≡ F₁ / 2 ^ n
   unfolding stepOf
   n-after = carried x₁ n (readAt (t .file) a) bits a₁ (λ k y. performOf 0x55 x₁ .status .n ≡ divF (2 ^ k) (y % 2 ^ k) (before k x₁) / 2 ^ k) (last-n x₁ fits₁ hm)
 
-  z-after : v .status .z ≡ flag (eqb (F₁ % 2 ^ n) 0)
+  z-after : v .core .status .z ≡ flag (eqb (F₁ % 2 ^ n) 0)
   unfolding stepOf
   z-after = carried x₁ n (readAt (t .file) a) bits a₁ (λ k y. performOf 0x55 x₁ .status .z ≡ flag (eqb (divF (2 ^ k) (y % 2 ^ k) (before k x₁) % 2 ^ k) 0)) (last-z x₁ fits₁ hm)
 
-  done : Done (register n a t) (lowQ n t) (2 ^ n) (v .status .n) (v .status .z) (view n b v)
+  done : Done (register n a t) (lowQ n t) (2 ^ n) (v .core .status .n) (v .core .status .z) (view n b v)
   done =
-      subst (λ (s : Work). Done (register n a t) (lowQ n t) (2 ^ n) (v .status .n) (v .status .z) s) (sym (reached .holds))
-      (subst (λ (N : ℕ). Done (register n a t) (lowQ n t) (2 ^ n) N (v .status .z) (divLast (2 ^ n) (register n a t) (view n b u))) (sym n-after)
+      subst (λ (s : Work). Done (register n a t) (lowQ n t) (2 ^ n) (v .core .status .n) (v .core .status .z) s) (sym (reached .holds))
+      (subst (λ (N : ℕ). Done (register n a t) (lowQ n t) (2 ^ n) N (v .core .status .z) (divLast (2 ^ n) (register n a t) (view n b u))) (sym n-after)
       (subst (λ (Z : ℕ). Done (register n a t) (lowQ n t) (2 ^ n) (F₁ / 2 ^ n) Z (divLast (2 ^ n) (register n a t) (view n b u))) (sym z-after)
-      (last-done (2 ^ n) (register n a t) (lowQ n t) (mod-lt (readAt (t .file) a) (pow-pos n)) (mod-lt (t .q) (pow-pos n)) (view n b u) (r .holds))))
+      (last-done (2 ^ n) (register n a t) (lowQ n t) (mod-lt (readAt (t .file) a) (pow-pos n)) (mod-lt (t .core .q) (pow-pos n)) (view n b u) (r .holds))))
 
   a₂ : readAt (v .file) a ≡ readAt (t .file) a
   a₂ = reached .rest .others a ab
@@ -240,9 +240,9 @@ module _ (n code a b : ℕ) (bits : selected code ≡ n) (ab : a ≢ b) (t : Sta
       ap (λ (y : ℕ). y % 2 ^ n) (word-y n code a b bits j 0x58 v in-file-v)
       ∙ carried x₂ n (readAt (t .file) a) bits a₂ (λ k y. performOf 0x58 x₂ .y % 2 ^ k ≡ lowQ n t % (y % 2 ^ k))
       (rem-y x₂ (lowQ n t) (carried-back x₂ n (readAt (t .file) a) bits a₂ (λ k y. 0 < y % 2 ^ k) hD)
-      (carried-back x₂ n (readAt (t .file) a) bits a₂ (λ k y. Done (y % 2 ^ k) (lowQ n t) (2 ^ k) (v .status .n) (v .status .z) (before k x₂)) done))
+      (carried-back x₂ n (readAt (t .file) a) bits a₂ (λ k y. Done (y % 2 ^ k) (lowQ n t) (2 ^ k) (v .core .status .n) (v .core .status .z) (before k x₂)) done))
 
-  q-after : z .q ≡ v .q
+  q-after : z .core .q ≡ v .core .q
   unfolding stepOf
   q-after = rem-q x₂
 
@@ -272,7 +272,7 @@ divide-exact w a b idle t h1 h4 ab hb ha hd h0 =
     (λ idle u r. divided n code a b bits ab t hb fits pos (idle 0) (idle 1) u r)
     (n - 1) (λ k. idle (suc k)) _
     (next n code a b A bits ab t refl hb 0x4f (λ s. Unit) (divFirst W D) (first-acts n A fits) (λ s. (s .B ≡ 0) × (s .Q ≡ X)) (Left W D X (n - 1)) (λ s e. tt)
-    (λ s e. first-left (n - 1) W D X pow pos (mod-lt (t .q) (pow-pos n)) s (e .0) (e .1)) (idle 0) t
+    (λ s e. first-left (n - 1) W D X pow pos (mod-lt (t .core .q) (pow-pos n)) s (e .0) (e .1)) (idle 0) t
     (start n code a b A bits ab t refl hb (λ s. (s .B ≡ 0) × (s .Q ≡ X)) (h0, refl)))
   where
     n : ℕ

@@ -15,7 +15,7 @@ use Rattle.machine.specs.declared.Outputs.{Outputs}
 use Rattle.machine.specs.Inputs.{bitsOf}
 use Rattle.chip.specs.Glossary.{performOf}
 use Rattle.chip.specs.Lists.{State, readAt, inputsOf, stepOf, execs}
-use Rattle.chip.proofs.Facts.{store-length, read-same, read-other}
+use Rattle.chip.proofs.Files.{store-length, read-same, read-other}
 use Rattle.sequence.specs.Sequences.{Idle, wordOf, wordsOf, times}
 use Rattle.sequence.specs.Results.{Untouched}
 
@@ -79,7 +79,7 @@ pub record Work : Type 0 where
   pub S : ℕ
 
 abbrev pub view : ℕ → ℕ → State → Work
-view n b t = record { B = readAt (t .file) b % 2 ^ n; Q = t .q % 2 ^ n; M = t .status .m; S = t .status .s }
+view n b t = record { B = readAt (t .file) b % 2 ^ n; Q = t .core .q % 2 ^ n; M = t .core .status .m; S = t .core .status .s }
 
 abbrev pub before : ℕ → Inputs → Work
 before n x = record { B = x .b % 2 ^ n; Q = x .q % 2 ^ n; M = x .status .m; S = x .status .s }
@@ -130,7 +130,7 @@ module _ (n code a b : ℕ) (bits : selected code ≡ n) (i : Idle) (opcode : �
   -- what a word leaves outside the selected bits
   pub word-rest :
       performOf opcode (inputsOf (wordOf code a b opcode i) t) .y / 2 ^ n ≡ readAt (t .file) b / 2 ^ n →
-      performOf opcode (inputsOf (wordOf code a b opcode i) t) .q / 2 ^ n ≡ t .q / 2 ^ n →
+      performOf opcode (inputsOf (wordOf code a b opcode i) t) .q / 2 ^ n ≡ t .core .q / 2 ^ n →
       Untouched n b t (stepOf (wordOf code a b opcode i) t)
   unfolding stepOf
   word-rest hy hq =

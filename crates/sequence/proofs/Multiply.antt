@@ -105,12 +105,12 @@ pub multiply-exact :
     Multiplied (bitsIn w) a b t (execs (multiplyWords w a b idle) t)
 unfolding wordsOf execs
 multiply-exact w a b idle t h1 h4 ab hb =
-    repeated n code a b A bits ab t refl hb 0x5c (λ s. Unit) (mulStep W (A % W)) (step-acts n A two) (Left W (A % W) (t .q % W)) (λ k s l. tt) (step-left W (A % W) (t .q % W) hA) (0x5d ∷ [])
+    repeated n code a b A bits ab t refl hb 0x5c (λ s. Unit) (mulStep W (A % W)) (step-acts n A two) (Left W (A % W) (t .core .q % W)) (λ k s l. tt) (step-left W (A % W) (t .core .q % W) hA) (0x5d ∷ [])
     (Multiplied n a b t)
-    (λ idle u r. done u _ (next n code a b A bits ab t refl hb 0x5d (λ s. Unit) (mulLast W (A % W)) (last-acts n A two) (Left W (A % W) (t .q % W) 0) (Product W (A % W) (t .q % W)) (λ s l. tt) (last-product W (A % W) (t .q % W) hA) (idle 0) u r))
+    (λ idle u r. done u _ (next n code a b A bits ab t refl hb 0x5d (λ s. Unit) (mulLast W (A % W)) (last-acts n A two) (Left W (A % W) (t .core .q % W) 0) (Product W (A % W) (t .core .q % W)) (λ s l. tt) (last-product W (A % W) (t .core .q % W) hA) (idle 0) u r))
     (n / 2 - 1) (λ k. idle (suc k)) _
-    (next n code a b A bits ab t refl hb 0x5b (λ s. Unit) (mulFirst W (A % W)) (first-acts n A two) (λ s. s .Q ≡ t .q % W) (Left W (A % W) (t .q % W) (n / 2 - 1)) (λ s e. tt) first (idle 0) t
-    (start n code a b A bits ab t refl hb (λ s. s .Q ≡ t .q % W) refl))
+    (next n code a b A bits ab t refl hb 0x5b (λ s. Unit) (mulFirst W (A % W)) (first-acts n A two) (λ s. s .Q ≡ t .core .q % W) (Left W (A % W) (t .core .q % W) (n / 2 - 1)) (λ s e. tt) first (idle 0) t
+    (start n code a b A bits ab t refl hb (λ s. s .Q ≡ t .core .q % W) refl))
   where
     n : ℕ
     n = bitsIn w
@@ -136,8 +136,8 @@ multiply-exact w a b idle t h1 h4 ab hb =
     pow : W ≡ 4 ^ suc (n / 2 - 1)
     pow = ap (λ (x : ℕ). 2 ^ x) (omega arith) ∙ pow4 (suc (n / 2 - 1))
 
-    first : (s : Work) → s .Q ≡ t .q % W → Left W (A % W) (t .q % W) (n / 2 - 1) (mulFirst W (A % W) s)
-    first s e = subst (λ (q : ℕ). Left W (A % W) q (n / 2 - 1) (mulFirst W (A % W) s)) e (first-left (n / 2 - 1) W (A % W) s pow hA (subst (λ (q : ℕ). q < W) (sym e) (mod-lt (t .q) (pow-pos n))))
+    first : (s : Work) → s .Q ≡ t .core .q % W → Left W (A % W) (t .core .q % W) (n / 2 - 1) (mulFirst W (A % W) s)
+    first s e = subst (λ (q : ℕ). Left W (A % W) q (n / 2 - 1) (mulFirst W (A % W) s)) e (first-left (n / 2 - 1) W (A % W) s pow hA (subst (λ (q : ℕ). q < W) (sym e) (mod-lt (t .core .q) (pow-pos n))))
 
-    done : (u v : State) → Reached n code a b A bits ab t refl hb (Product W (A % W) (t .q % W)) v → Multiplied n a b t v
+    done : (u v : State) → Reached n code a b A bits ab t refl hb (Product W (A % W) (t .core .q % W)) v → Multiplied n a b t v
     done u v r = record { high = r .holds .high; low = r .holds .low; rest = r .rest }

@@ -2,21 +2,21 @@
 -- Assumes nothing.
 use mathlib.Core.Path.{_≡_, sym, ap, _∙_, subst}
 use mathlib.Core.Logic.{_≢_}
-use mathlib.Core.List.{List, [], _∷_}
-use Prim.Native.Nat.{ℕ, suc, _+_, _-_, _≤_, _<_, min}
-use native.Mathlib.Omega.{arith}
-use lib.ListN.{length}
+use mathlib.Core.List.{List, _∷_}
+use Prim.Native.Nat.{ℕ, _≤_, _<_}
+use lib.ListN.{length, drop}
 use Rattle.machine.specs.declared.Machine.{Machine}
-use Rattle.machine.proofs.Round.{loaded-read}
 use Rattle.reasons.specs.declared.Reason.the-variants.{Done}
 use Rattle.chip.specs.declared.Word.{Word}
 use Rattle.chip.specs.Lists.{State, execs}
-use Rattle.sheet.specs.Sheet.{wordsOf, declaredOf, wordAt, Ready}
+use Rattle.sheet.specs.Sheet.{executionsOf, WordReady}
 use Rattle.sheet.specs.declared.Given.the-variants.{Number}
+use Rattle.sheet.proofs.Positions.{All, all-take, all-drop}
+use Rattle.sheet.proofs.Positions.All.{more}
 use Rattle.sheet.proofs.Table.{ready}
-use Rattle.run.specs.Run.{Sane, Ended, state, entering, wordsFrom, ran}
-use Rattle.run.proofs.Laws.{execs-sane, each-word}
-use Rattle.run.proofs.Parts.{run-is, entering-sane}
+use Rattle.run.specs.Run.{Sane, Ended, entering, ran}
+use Rattle.run.proofs.Laws.{each-ready, execs-sane}
+use Rattle.run.proofs.Parts.{run-is, entering-sane, back}
 use Rattle.sequence.specs.Sequences.{Idle, bitsIn, wordsOf as listed, multiplyWords, divideWords}
 use Rattle.sequence.specs.Results.{register, Multiplied, Divided}
 use Rattle.sequence.specs.Decimal.{Layout, decimalWords}
@@ -25,45 +25,31 @@ use Rattle.sequence.proofs.Multiply.{multiply-exact}
 use Rattle.sequence.proofs.Divide.{divide-exact}
 
 module _ (s file : List ℕ) (m : Machine) (start : ℕ) (call : Accepted s file m start) where
-  file-ready : Ready s (length file)
-  file-ready = ready s (length file) (Number start) (call .passed)
-
   module _ (ws : List Word) (stands : Stands s start ws) where
     -- the call runs the words, and them alone
     runs : runOn s file m start ws ≡ ran ws (entering file m)
-    runs =
-        let n : min (length ws) (wordsOf s - start) ≡ length ws = let h : start + length ws ≤ wordsOf s = stands .within in omega arith in
-        run-is s file m start (length ws) (call .passed)
-        ∙ ap (λ (k : ℕ). ran (wordsFrom s start k) (entering file m)) n
-        ∙ ap (λ (l : List Word). ran l (entering file m)) (stands .words)
+    runs = run-is s file m start (length ws) (call .passed) ∙ ap (λ (l : List Word). ran l (entering file m)) stands
 
-    sane : Sane (execs ws (entering file m))
-    sane =
-        subst (λ (l : List Word). Sane (execs l (entering file m))) (stands .words)
-        (execs-sane (declaredOf s) (wordsFrom s start (length ws)) (entering file m)
-        (each-word (declaredOf s) s start (length ws) (λ j lo hi. file-ready .word j (let h : start + length ws ≤ wordsOf s = stands .within in omega arith)))
-        (entering-sane file m (call .registers) (call .q)))
+    -- each can be run on the file
+    fit : All (WordReady (length file)) ws
+    fit =
+        subst (All (WordReady (length file))) stands
+        (all-take _ (length ws) (drop start (executionsOf s)) (all-drop _ start (executionsOf s) (each-ready s (length file) (ready s (length file) (Number start) (call .passed)))))
 
     -- A run of words that stand in an accepted sheet is done, counts them, and hands back what they leave one after another.
     pub run-leaves : handed (runOn s file m start ws) ≡ execs ws (entering file m)
     run-leaves =
-        ap handed runs ∙ ap (state (execs ws (entering file m) .file) (execs ws (entering file m) .q)) (loaded-read (execs ws (entering file m) .status) (sane .status))
+        ap handed runs ∙ back (execs ws (entering file m)) (execs-sane (length file) ws (entering file m) fit (entering-sane file m (call .registers) (call .q)))
 
     pub run-counts : (runOn s file m start ws .answer .reason ≡ Done) × (runOn s file m start ws .answer .place ≡ length ws)
     run-counts = (ap (λ (e : Ended). e .answer .reason) runs, ap (λ (e : Ended). e .answer .place) runs)
 
   -- registers of a word that stands in the sheet are in the file
   in-file : (w : Word) (ws : List Word) → Stands s start (w ∷ ws) → w .b < length file
-  unfolding wordsFrom
-  in-file w ws stands =
-      let h : start + suc (length ws) ≤ wordsOf s = stands .within in
-      let b : wordAt s start .b < declaredOf s = file-ready .word start (omega arith) .b in
-      let e : wordAt s start .b ≡ w .b = ap first (stands .words) in
-      omega (arith, file-ready .file)
+  in-file w ws stands = go (fit (w ∷ ws) stands)
     where
-      first : List Word → ℕ
-      first [] = 0
-      first (v ∷ vs) = v .b
+      go : All (WordReady (length file)) (w ∷ ws) → w .b < length file
+      go (more r a) = r .b
 
   -- MULTIPLY ON A SHEET. Where the multiply list of registers a and b stands in an accepted sheet, running it leaves the high half of the exact
   -- product in register b and the low half in Q, on one to four bytes, and all else as it was.

@@ -147,14 +147,14 @@ facing o d t = inputsOf (calculation (o .opcode) d) t
 pub record Elsewhere (n y z passing : ℕ) (t u : State) : Type 0 where
   pub registers : length (u .file) ≡ length (t .file)
   pub others : (r : ℕ) → r ≢ y → r ≢ z → readAt (u .file) r ≡ readAt (t .file) r
-  pub q : u .q ≡ t .q
+  pub q : u .core .q ≡ t .core .q
   pub above : readAt (u .file) z / 2 ^ n ≡ passing / 2 ^ n
 
 -- register z holds the k digits of A + B + c modulo 10 ^ k, and C is the decimal carry
 pub record DecimalSum (k z A B c : ℕ) (u : State) : Type 0 where
   pub digits : Digits k (readAt (u .file) z)
   pub sum : value k (readAt (u .file) z) ≡ (value k A + value k B + c) % 10 ^ k
-  pub carry : u .status .c ≡ (value k A + value k B + c) / 10 ^ k
+  pub carry : u .core .status .c ≡ (value k A + value k B + c) / 10 ^ k
 
 -- register z holds the k digits of A - B - c modulo 10 ^ k. Where that is below zero, 1 is borrowed, of weight 10 ^ k; C is the complement of what
 -- is borrowed, or that itself in borrow mode
@@ -163,7 +163,7 @@ pub record DecimalDifference (k z A B c mode : ℕ) (u : State) : Type 0 where
   pub difference : value k (readAt (u .file) z) ≡ (value k A + (10 ^ k - (value k B + c))) % 10 ^ k
   pub borrowed : ℕ
   pub balance : value k (readAt (u .file) z) + value k B + c ≡ value k A + 10 ^ k * borrowed
-  pub carry : u .status .c ≡ 1 - xor borrowed mode
+  pub carry : u .core .status .c ≡ 1 - xor borrowed mode
 
 -- an addition and its correction come out exact, for every layout and state in which the operands' selected nibbles are digits
 abbrev pub SumExact : DecimalOperation → Type 0

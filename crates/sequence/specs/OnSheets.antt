@@ -1,20 +1,19 @@
 -- The sequences as they stand in a sheet, and what a run of them leaves. Assumes nothing.
 use mathlib.Core.Path.{_≡_}
 use mathlib.Core.List.{List}
-use Prim.Native.Nat.{ℕ, _+_, _^_, _≤_, _<_}
+use Prim.Native.Nat.{ℕ, _^_, _<_}
 use lib.ListN.{length}
 use Rattle.machine.specs.declared.Machine.{Machine}
 use Rattle.reasons.specs.declared.Check.the-variants.{Good as Passed}
 use Rattle.chip.specs.declared.Word.{Word}
 use Rattle.chip.specs.Lists.{State, readAt}
-use Rattle.sheet.specs.Sheet.{wordsOf, checkOf}
+use Rattle.sheet.specs.Sheet.{checkOf}
 use Rattle.sheet.specs.declared.Given.the-variants.{Number}
-use Rattle.run.specs.Run.{Ended, entering, wordsFrom, runOf}
+use Rattle.run.specs.Run.{Ended, entering, executed, runOf}
 
--- the words of sheet s from word `start` on are ws: they unpack from its bytes
-pub record Stands (s : List ℕ) (start : ℕ) (ws : List Word) : Type 0 where
-  pub words : wordsFrom s start (length ws) ≡ ws
-  pub within : start + length ws ≤ wordsOf s
+-- the executions of sheet s from `start` on are ws: they unpack from its bytes
+abbrev pub Stands : List ℕ → ℕ → List Word → Type 0
+Stands s start ws = executed s start (length ws) ≡ ws
 
 -- a call that is not refused, on registers and Q of 32 bits
 pub record Accepted (s file : List ℕ) (m : Machine) (start : ℕ) : Type 0 where

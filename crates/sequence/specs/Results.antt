@@ -10,14 +10,14 @@ abbrev pub register : ℕ → ℕ → State → ℕ
 register n r t = readAt (t .file) r % 2 ^ n
 
 abbrev pub lowQ : ℕ → State → ℕ
-lowQ n t = t .q % 2 ^ n
+lowQ n t = t .core .q % 2 ^ n
 
 -- the rest of the file and of Q is as before: every register but b, the number of registers, and the unselected bytes of register b and of Q
 pub record Untouched (n b : ℕ) (t u : State) : Type 0 where
   pub registers : length (u .file) ≡ length (t .file)
   pub others : (r : ℕ) → r ≢ b → readAt (u .file) r ≡ readAt (t .file) r
   pub above-b : readAt (u .file) b / 2 ^ n ≡ readAt (t .file) b / 2 ^ n
-  pub above-q : u .q / 2 ^ n ≡ t .q / 2 ^ n
+  pub above-q : u .core .q / 2 ^ n ≡ t .core .q / 2 ^ n
 
 -- register b holds the high half and Q the low half of the exact product of register a and Q
 pub record Multiplied (n a b : ℕ) (t u : State) : Type 0 where
