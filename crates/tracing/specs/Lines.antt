@@ -1,35 +1,45 @@
--- What the trace program writes: a line for each word, and a last line of its own kind. Assumes nothing.
+-- What the trace program writes: a line for each execution, and a last line of its own kind. Assumes nothing.
 use mathlib.Core.List.{List, [], _∷_, _++_}
-use Prim.Native.Nat.{ℕ, _/_, _%_}
-use Rattle.machine.specs.declared.Machine.{Machine}
-use Rattle.machine.specs.Status.{freshOf}
+use Prim.Native.Nat.{ℕ, _+_, _/_, _%_}
+use lib.ListN.{length}
+use Rattle.machine.specs.declared.Shown.{Shown}
+use Rattle.machine.specs.Status.{asRead}
+use Rattle.machine.specs.Core.{freshOf}
 use Rattle.reasons.specs.declared.Reason.{Reason}
+use Rattle.reasons.specs.declared.Reason.the-variants.{Done}
 use Rattle.reasons.specs.declared.Check.{Check}
 use Rattle.reasons.specs.declared.Check.the-variants.{Good, Bad}
 use Rattle.reasons.specs.Reasons.{numberOf}
 use Rattle.text.specs.Text.{digitOf, hexOf}
-use Rattle.sheet.specs.Sheet.{wordsOf, wordAt}
-use Rattle.run.specs.declared.Traced.{Traced}
-use Rattle.run.specs.declared.RunAnswer.{RunAnswer}
-use Rattle.run.specs.Run.{Shown, tracedOf, runOf}
-use Rattle.tracing.specs.declared.WordLine.{WordLine}
-use Rattle.tracing.specs.Input.{sheetIn, fileIn, inputOf}
+use Rattle.chip.specs.declared.Word.{Word}
+use Rattle.chip.specs.Lists.{State, shownOf, stepOf}
+use Rattle.sheet.specs.Sheet.{executionsOf, inputOf}
+use Rattle.run.specs.Run.{entering}
+use Rattle.tracing.specs.Input.{fileIn}
 
--- ---- text
 abbrev pub space : ℕ
 space = 32
 
 abbrev pub newline : ℕ
 newline = 10
 
--- a word's line: its index in four hex digits, then Y, Q and status in eight each, one space between
-unfoldable pub lineOf : ℕ → Traced → List ℕ
-lineOf index t =
+-- an execution's line: its index in four hex digits, then Y, Q and status in eight each, one space between
+unfoldable pub lineOf : ℕ → Shown → List ℕ
+lineOf index x =
     hexOf 4 index
-    ++ space ∷ hexOf 8 (t .y)
-    ++ space ∷ hexOf 8 (t .machine .q)
-    ++ space ∷ hexOf 8 (t .machine .status)
+    ++ space ∷ hexOf 8 (x .y)
+    ++ space ∷ hexOf 8 (x .core .q)
+    ++ space ∷ hexOf 8 (asRead (x .core .status))
     ++ newline ∷ []
+
+-- its bytes
+abbrev pub lineLength : ℕ
+lineLength = 32
+
+-- the lines of executions one after another, from an index on
+unfoldable pub linesOf : ℕ → List Word → State → List ℕ
+linesOf index [] t = []
+linesOf index (w ∷ ws) t = lineOf index (shownOf w t) ++ linesOf (index + 1) ws (stepOf w t)
 
 -- two decimal digits
 abbrev pub decimalOf : ℕ → List ℕ
@@ -39,24 +49,13 @@ decimalOf n = digitOf (n / 10 % 10) ∷ digitOf (n % 10) ∷ []
 unfoldable pub lastOf : Reason → ℕ → List ℕ
 lastOf reason place = decimalOf (numberOf reason) ++ space ∷ hexOf 4 place ++ newline ∷ []
 
--- ---- a word run, and its line
-pub record Printed : Type 0 where
-  pub line : WordLine
-  pub file : List ℕ
+-- ---- the whole text: a refused input runs nothing; else a fresh machine runs the sheet from its first execution to its last
+unfoldable pub tracedOf : List ℕ → List ℕ
+tracedOf x = linesOf 0 (executionsOf x) (entering (fileIn x) freshOf)
 
-abbrev pub printed : WordLine → List ℕ → Printed
-printed l file = record { line = l; file = file }
+abbrev pub textBy : Check → List ℕ → List ℕ
+textBy (Bad reason place) x = lastOf reason place
+textBy Good x = tracedOf x ++ lastOf Done (length (executionsOf x))
 
-unfoldable pub printedOf : List ℕ → ℕ → List ℕ → Machine → Printed
-printedOf s index file m =
-    let t : Shown = tracedOf (wordAt s index) file m in
-    printed (record { text = lineOf index (t .traced); machine = t .traced .machine }) (t .file)
-
--- ---- the whole: what the last line tells, and Q and status as the last word left them
--- a refused input runs nothing; else a fresh machine runs the sheet from word 0 to the end
-abbrev pub answeredBy : Check → List ℕ → RunAnswer
-answeredBy (Bad reason place) x = record { reason = reason; place = place; machine = freshOf }
-answeredBy Good x = runOf (sheetIn x) (fileIn x) freshOf 0 (wordsOf x) .answer
-
-unfoldable pub answerOf : List ℕ → RunAnswer
-answerOf x = answeredBy (inputOf x) x
+unfoldable pub textOf : List ℕ → List ℕ
+textOf x = textBy (inputOf x) x

@@ -1,26 +1,30 @@
-// The trace: an input checked and taken apart, its run shown a word at a time, and the text of the lines. The programs above read an input, hand it to
-// `trace`, and write the last line.
+// The trace: an input checked and taken apart, its run shown an execution at a time, and all of its text in one lent buffer. The programs above
+// read an input, hand it to `trace`, and write what they get.
+use machine::Core;
 use machine::Machine;
+use machine::Shown;
 use reasons::Check;
 use reasons::Reason;
-use run::RunAnswer;
-use run::Traced;
+use sheet::Which;
 ghost use mathlib.Core.Path.{_≡_};
-ghost use Prim.Native.Nat.{_+_, _*_, _^_, _≤_, _<_};
-ghost use lib.ListN.{length};
-ghost use Rattle.machine.specs.Status.{freshOf};
+ghost use mathlib.Core.List.{_++_};
+ghost use Prim.Native.Nat.{_+_, _*_, _≤_, _<_};
+ghost use lib.ListN.{length, drop};
+ghost use Rattle.machine.specs.Status.{Good};
+ghost use Rattle.chip.specs.Lists.{state};
 ghost use Rattle.text.specs.Text.{hexOf};
-ghost use Rattle.sheet.specs.Sheet.{wordsOf, declaredOf, checkOf, Ready};
-ghost use Rattle.sheet.specs.declared.Given.{Given};
-ghost use Rattle.run.specs.Run.{ended, runOf};
-ghost use Rattle.tracing.specs.Input.{sizeOf, registerAt, registersFrom, inputOf};
-ghost use Rattle.tracing.specs.Lines.{lineOf, decimalOf, lastOf, printed, printedOf, answerOf};
+ghost use Rattle.sheet.specs.Sheet.{wordsOf, declaredOf, wordAt, inputOf, Ready};
+ghost use Rattle.tracing.specs.Input.{sizeOf, registerAt, registersFrom, fileIn};
+ghost use Rattle.tracing.specs.Lines.{lineOf, decimalOf, lastOf, linesOf, textOf};
+ghost use Rattle.tracing.specs.Fill.{Put, Traced, Filled, Written};
 
-// A word's line, and Q and status after the word.
-pub struct WordLine {
-    pub text: [u8; 32],
-    pub machine: Machine,
-}
+// The bytes of an execution's line, and of the last line.
+const LINE: usize = 32;
+
+const LAST: usize = 8;
+
+// The bytes of the longest text: 4,095 lines, and the last one.
+pub const MOST: usize = 131048;
 
 // ---- text
 
@@ -38,14 +42,17 @@ fn two_decimal(n: u32) -> [u8; 2]
     [text::digit(n / 10 % 10), text::digit(n % 10)]
 }
 
-// The line of a word: index, Y, Q, status.
-fn line(index: usize, traced: Traced) -> [u8; 32]
-    ensures { λ r. ⌜ r ≡ lineOf index traced ⌝ }
+// The line of an execution: index, Y, Q, status.
+fn line(index: usize, shown: Shown) -> [u8; LINE]
+    requires { ⌜ Good (shown .core .status) ⌝ }
+    ensures { λ r. ⌜ r ≡ lineOf index shown ⌝ }
 {
+    let core = shown.core;
+    let machine = core.leave();
     let i = four(index);
-    let y = text::hex8(traced.y);
-    let q = text::hex8(traced.machine.q);
-    let s = text::hex8(traced.machine.status);
+    let y = text::hex8(shown.y);
+    let q = text::hex8(machine.q);
+    let s = text::hex8(machine.status);
     [
         i[0],
         i[1],
@@ -83,7 +90,7 @@ fn line(index: usize, traced: Traced) -> [u8; 32]
 }
 
 // The last line: reason and place.
-fn last_line(reason: Reason, place: usize) -> [u8; 8]
+fn last_line(reason: Reason, place: usize) -> [u8; LAST]
     ensures { λ r. ⌜ r ≡ lastOf reason place ⌝ }
 {
     let n = two_decimal(reasons::number(reason));
@@ -101,44 +108,12 @@ fn sheet_size(input: &[u8]) -> usize
     4 + 6 * sheet::words(input)
 }
 
-// A sheet and its declared registers: 3, 4, 5, then 6 on the whole total, then the words.
-fn check_input(input: &[u8]) -> Check
-    ensures { λ r. ⌜ r ≡ inputOf (now (input .entry)) ⌝ }
-{
-    if input.len() < 4 {
-        return Check::Bad {
-            reason: Reason::Short,
-            place: 0,
-        };
-    }
-    let size = sheet_size(input);
-    if input.len() == size + 4 * sheet::declared(input) {
-        return sheet::check_sheet(&input[0..size]);
-    }
-    // the total is wrong, which Version and Header come before: they are those of the header on its own
-    let header = sheet::check_sheet(&input[0..4]);
-    if let Check::Bad { reason, place } = header {
-        return Check::Bad { reason, place };
-    }
-    Check::Bad {
-        reason: Reason::Length,
-        place: 0,
-    }
-}
-
-// Four bytes as one number, high first.
-fn joined(b0: u8, b1: u8, b2: u8, b3: u8) -> u32
-    ensures { λ r. ⌜ r ≡ b0 * 2 ^ 24 + b1 * 2 ^ 16 + b2 * 2 ^ 8 + b3 ⌝ }
-{
-    b0 as u32 * 0x100_0000 + b1 as u32 * 0x1_0000 + b2 as u32 * 0x100 + b3 as u32
-}
-
 // The register whose four bytes start at a place.
 fn register(input: &[u8], at: usize) -> u32
     requires { ⌜ at + 4 ≤ length (now input) ⌝ }
     ensures { λ r. ⌜ r ≡ registerAt (now (input .entry)) at ⌝ }
 {
-    joined(input[at], input[at + 1], input[at + 2], input[at + 3])
+    bits::four_bytes(input[at], input[at + 1], input[at + 2], input[at + 3])
 }
 
 // The registers that start at a place, into the whole file.
@@ -155,74 +130,67 @@ fn load(input: &[u8], at: usize, file: &mut [u32])
 
 // ---- a run, shown
 
-// Word `index` of a sheet, run, and its line. The sheet was checked once: this checks nothing again.
-fn trace_word(sheet: &[u8], index: usize, file: &mut [u32], machine: Machine) -> WordLine
-    requires { ⌜ Ready (now sheet) (length (now file)) × (index < wordsOf (now sheet)) ⌝ }
-    ensures { λ r. ⌜ printed r (now (file .exit)) ≡ printedOf (now (sheet .entry)) index (now (file .entry)) machine ⌝ }
+// A line into a text at a place.
+fn put(line: &[u8], text: &mut [u8], at: usize)
+    requires { ⌜ at + length (now line) ≤ length (now text) ⌝ }
+    ensures { λ _. ⌜ Put (now (line .entry)) at (now (text .entry)) (now (text .exit)) ⌝ }
 {
-    let traced = run::traced_step(sheet, index, file, machine);
-    let after = traced.machine;
-    WordLine {
-        text: line(index, traced),
-        machine: after,
-    }
+    bytes::copy(line, &mut text[at..]);
 }
 
-// The words of a sheet from word 0 to the end on a fresh machine, their lines written one at a time.
-fn write_words(sheet: &[u8], file: &mut [u32]) -> RunAnswer
-    requires { ⌜ checkOf (now sheet) (Given.Number (length (now file))) (Given.Number 0) ≡ Check.Good ⌝ }
-    ensures { λ r. ⌜ ended r (now (file .exit)) ≡ runOf (now (sheet .entry)) (now (file .entry)) freshOf 0 (wordsOf (now (sheet .entry))) ⌝ }
+// Execution `index` of a sheet, run, and its line in its place. The sheet was checked once: this checks nothing again.
+fn trace_word(sheet: &[u8], index: usize, file: &mut [u32], core: Core, text: &mut [u8]) -> Core
+    requires { ⌜ Ready (now sheet) (length (now file)) × (index < wordsOf (now sheet)) × Good (core .status) ⌝ }
+    requires { ⌜ 32 * index + 32 ≤ length (now text) ⌝ }
+    ensures { λ r. ⌜ Traced (wordAt (now (sheet .entry)) index) index (state (now (file .entry)) core) (now (text .entry)) (state (now (file .exit)) r) (now (text .exit)) ⌝ }
 {
-    let words = sheet::words(sheet);
-    let mut machine = Machine::fresh();
+    let shown = run::step_at(sheet, sheet, Which::Main, index, file, core);
+    let after = shown.core;
+    let line = line(index, shown);
+    put(&line, text, LINE * index);
+    after
+}
+
+// The lines of a sheet's executions, from the first to the last on a fresh machine, at the start of a text; how many bytes they take.
+fn fill(sheet: &[u8], file: &mut [u32], text: &mut [u8]) -> usize
+    requires { ⌜ Ready (now sheet) (length (now file)) × (32 * wordsOf (now sheet) ≤ length (now text)) ⌝ }
+    ensures { λ r. ⌜ Filled (now (sheet .entry)) (now (file .entry)) (now (text .entry)) r (now (text .exit)) ⌝ }
+{
+    let n = sheet::executions(sheet);
+    let mut core = Machine::fresh().enter();
     let mut index: usize = 0;
-    while index < words {
-        let shown = trace_word(sheet, index, file, machine);
-        machine = shown.machine;
-        let text = shown.text;
-        io::write_all(1, &text);
+    while index < n {
+        core = trace_word(sheet, index, file, core, text);
         index += 1;
     }
-    RunAnswer {
-        reason: Reason::Done,
-        place: index,
-        machine,
-    }
+    LINE * index
 }
 
-// The words of an input that was checked, on a file that has room for its registers.
-fn write_run(input: &[u8], file: &mut [u32]) -> RunAnswer
-    requires { ⌜ (inputOf (now input) ≡ Check.Good) × (length (now file) ≡ declaredOf (now input)) ⌝ }
-    ensures { λ r. ⌜ r ≡ answerOf (now (input .entry)) ⌝ }
+// The text of an input that was checked, on a file that has room for its registers.
+fn trace_run(input: &[u8], file: &mut [u32], text: &mut [u8]) -> usize
+    requires { ⌜ (inputOf (now input) ≡ Check.Good) × (length (now file) ≡ declaredOf (now input)) × (131048 ≤ length (now text)) ⌝ }
+    ensures { λ r. ⌜ Written (textOf (now (input .entry))) (now (text .entry)) r (now (text .exit)) ⌝ }
 {
-    let size = sheet_size(input);
-    load(input, size, file);
-    write_words(&input[0..size], file)
+    load(input, sheet_size(input), file);
+    let at = fill(input, file, text);
+    let line = last_line(Reason::Done, sheet::executions(input));
+    put(&line, text, at);
+    at + LAST
 }
 
-// The words of an input, or its refusal.
-fn write_lines(input: &[u8]) -> RunAnswer
-    ensures { λ r. ⌜ r ≡ answerOf (now (input .entry)) ⌝ }
+// The trace of an input: all of its text at the start of a lent buffer, which has room for the longest; how many bytes it has. Bytes past them
+// stay.
+pub fn trace(input: &[u8], text: &mut [u8]) -> usize
+    requires { ⌜ 131048 ≤ length (now text) ⌝ }
+    ensures { λ r. ⌜ Written (textOf (now (input .entry))) (now (text .entry)) r (now (text .exit)) ⌝ }
 {
-    let check = check_input(input);
+    let check = sheet::check_input(input);
     if let Check::Bad { reason, place } = check {
-        return RunAnswer {
-            reason,
-            place,
-            machine: Machine::fresh(),
-        };
+        let line = last_line(reason, place);
+        put(&line, text, 0);
+        return LAST;
     }
     let registers = sheet::declared(input);
     let mut file = [0u32; 64];
-    write_run(input, &mut file[0..registers])
-}
-
-// The trace of an input: writes the lines of its words, none after a refusal, and answers the last line. No promise can speak of what is written,
-// but each line is the answer of a function whose promise determines every byte.
-pub fn trace(input: &[u8]) -> [u8; 8]
-    ensures { λ r. ⌜ r ≡ lastOf (answerOf (now (input .entry)) .reason) (answerOf (now (input .entry)) .place) ⌝ }
-{
-    let answer = write_lines(input);
-    let reason = answer.reason;
-    last_line(reason, answer.place)
+    trace_run(input, &mut file[0..registers], text)
 }
