@@ -16,39 +16,42 @@
 
 /* ---- Engines ------------------------------------------------------------ */
 
-struct end {
-    uint32_t reason;
-    uint64_t place; /* words run, where the reason is 0 */
-};
+/* An engine's two functions give the reason, and by `place` the words run.
+ * They take and give numbers and pointers alone: see native-shim.c. */
+typedef uint32_t run_function(const uint8_t *sheet, size_t length,
+                              uint32_t *file, size_t registers, uint32_t *q,
+                              uint32_t *status, uint64_t start,
+                              uint64_t allowance, uint64_t *place);
+typedef uint32_t interrupted_function(
+    const uint8_t *main_sheet, size_t main_length, const uint8_t *handler,
+    size_t handler_length, const uint16_t *schedule, size_t entries,
+    uint32_t *file, size_t registers, uint32_t *q, uint32_t *status,
+    uint64_t *place);
 
 struct engine {
     const char *name;
-    struct end (*run)(const uint8_t *sheet, size_t length, uint32_t *file,
-                      size_t registers, uint32_t *q, uint32_t *status,
-                      uint64_t start, uint64_t allowance);
-    struct end (*run_interrupted)(const uint8_t *main_sheet, size_t main_length,
-                                  const uint8_t *handler, size_t handler_length,
-                                  const uint16_t *schedule, size_t entries,
-                                  uint32_t *file, size_t registers, uint32_t *q,
-                                  uint32_t *status);
+    run_function *run;
+    interrupted_function *run_interrupted;
 };
 
-static struct end c_run(const uint8_t *sheet, size_t length, uint32_t *file,
-                        size_t registers, uint32_t *q, uint32_t *status,
-                        uint64_t start, uint64_t allowance)
+static uint32_t c_run(const uint8_t *sheet, size_t length, uint32_t *file,
+                      size_t registers, uint32_t *q, uint32_t *status,
+                      uint64_t start, uint64_t allowance, uint64_t *place)
 {
     struct model_machine machine = {*q, *status};
     struct model_verdict v =
         model_run(sheet, length, file, registers, &machine, start, allowance);
     *q = machine.q;
     *status = machine.status;
-    return (struct end){v.reason, v.place};
+    *place = v.place;
+    return v.reason;
 }
 
-static struct end c_run_interrupted(
+static uint32_t c_run_interrupted(
     const uint8_t *main_sheet, size_t main_length, const uint8_t *handler,
     size_t handler_length, const uint16_t *schedule, size_t entries,
-    uint32_t *file, size_t registers, uint32_t *q, uint32_t *status)
+    uint32_t *file, size_t registers, uint32_t *q, uint32_t *status,
+    uint64_t *place)
 {
     struct model_machine machine = {*q, *status};
     struct model_verdict v = model_run_interrupted(
@@ -56,14 +59,22 @@ static struct end c_run_interrupted(
         file, registers, &machine);
     *q = machine.q;
     *status = machine.status;
-    return (struct end){v.reason, v.place};
+    *place = v.place;
+    return v.reason;
 }
 
 /*
  * The proved library: proved.h has two functions like the two above over its C
- * interface. run.sh links the archive.
+ * interface. run.sh links the archive; or, with BENCH_NATIVE, the same two and
+ * the library as native.sh compiles them.
  */
+#ifdef BENCH_NATIVE
+run_function proved_run;
+interrupted_function proved_run_interrupted;
+#else
+#define PROVED_LINKAGE static
 #include "proved.h"
+#endif
 
 /* The first is what the others are measured against. */
 static const struct engine engines[] = {
@@ -93,21 +104,23 @@ static struct state first_state(const struct bench_case *c)
 static uint64_t run_once(const struct engine *engine,
                          const struct bench_case *c, struct state *s)
 {
-    struct end end =
+    uint64_t place;
+    uint32_t reason =
         c->entries == 0
             ? engine->run(c->main.bytes, c->main.length, s->file,
                           MODEL_MOST_REGISTERS, &s->q, &s->status, 0,
-                          UINT64_MAX)
+                          UINT64_MAX, &place)
             : engine->run_interrupted(c->main.bytes, c->main.length,
                                       c->handler.bytes, c->handler.length,
                                       c->schedule, c->entries, s->file,
-                                      MODEL_MOST_REGISTERS, &s->q, &s->status);
-    if (end.reason != MODEL_DONE) {
+                                      MODEL_MOST_REGISTERS, &s->q, &s->status,
+                                      &place);
+    if (reason != MODEL_DONE) {
         fprintf(stderr, "%s refused %s: reason %" PRIu32 "\n", engine->name,
-                c->name, end.reason);
+                c->name, reason);
         exit(1);
     }
-    return end.place;
+    return place;
 }
 
 /* Processor time of this process in nanoseconds: what else runs on the machine
