@@ -1,7 +1,7 @@
 #!/bin/sh
 # Builds the benchmark at -O3 and runs it:
 #
-#   bench/run.sh [--native] [REPEATS]
+#   bench/run.sh [--native] [--each [all]] [REPEATS]
 #
 # Works from any directory. CC may name the compiler on an x86-64 machine.
 #
@@ -12,7 +12,7 @@
 # the parts, which moves the code and so the emulator's times a little.
 #
 # With --native a machine of another kind compiles both sides for itself, by the
-# kit's compiler too: see native.sh.
+# kit's compiler too: see native.sh. --each times the operations one by one.
 set -eu
 here=$(cd -- "$(dirname -- "$0")" && pwd)
 archive=$here/../target/staticlib/libam29332.a
@@ -23,8 +23,8 @@ for word in "$@"; do
     shift
     case $word in
     --native) native=yes ;;
-    [1-9]*) set -- "$@" "$word" ;;
-    *) echo "usage: run.sh [--native] [REPEATS]" >&2; exit 2 ;;
+    --each | all | [1-9]*) set -- "$@" "$word" ;;
+    *) echo "usage: run.sh [--native] [--each [all]] [REPEATS]" >&2; exit 2 ;;
     esac
 done
 
