@@ -2,7 +2,10 @@
  * Times the engines on the benchmark's sheets: nanoseconds a word, the best of
  * several repeats, and each other engine's ratio to the first. See README.md.
  *
- *   harness [REPEATS]       default 25
+ *   harness [--each [all]] [REPEATS]     default 25
+ *
+ * --each times the operations one by one instead, and prints the 20 where the
+ * ratio is worst, or all.
  */
 #define _POSIX_C_SOURCE 199309L
 #include "model.h"
@@ -16,39 +19,42 @@
 
 /* ---- Engines ------------------------------------------------------------ */
 
-struct end {
-    uint32_t reason;
-    uint64_t place; /* words run, where the reason is 0 */
-};
+/* An engine's two functions give the reason, and by `place` the words run.
+ * They take and give numbers and pointers alone: see native-shim.c. */
+typedef uint32_t run_function(const uint8_t *sheet, size_t length,
+                              uint32_t *file, size_t registers, uint32_t *q,
+                              uint32_t *status, uint64_t start,
+                              uint64_t allowance, uint64_t *place);
+typedef uint32_t interrupted_function(
+    const uint8_t *main_sheet, size_t main_length, const uint8_t *handler,
+    size_t handler_length, const uint16_t *schedule, size_t entries,
+    uint32_t *file, size_t registers, uint32_t *q, uint32_t *status,
+    uint64_t *place);
 
 struct engine {
     const char *name;
-    struct end (*run)(const uint8_t *sheet, size_t length, uint32_t *file,
-                      size_t registers, uint32_t *q, uint32_t *status,
-                      uint64_t start, uint64_t allowance);
-    struct end (*run_interrupted)(const uint8_t *main_sheet, size_t main_length,
-                                  const uint8_t *handler, size_t handler_length,
-                                  const uint16_t *schedule, size_t entries,
-                                  uint32_t *file, size_t registers, uint32_t *q,
-                                  uint32_t *status);
+    run_function *run;
+    interrupted_function *run_interrupted;
 };
 
-static struct end c_run(const uint8_t *sheet, size_t length, uint32_t *file,
-                        size_t registers, uint32_t *q, uint32_t *status,
-                        uint64_t start, uint64_t allowance)
+static uint32_t c_run(const uint8_t *sheet, size_t length, uint32_t *file,
+                      size_t registers, uint32_t *q, uint32_t *status,
+                      uint64_t start, uint64_t allowance, uint64_t *place)
 {
     struct model_machine machine = {*q, *status};
     struct model_verdict v =
         model_run(sheet, length, file, registers, &machine, start, allowance);
     *q = machine.q;
     *status = machine.status;
-    return (struct end){v.reason, v.place};
+    *place = v.place;
+    return v.reason;
 }
 
-static struct end c_run_interrupted(
+static uint32_t c_run_interrupted(
     const uint8_t *main_sheet, size_t main_length, const uint8_t *handler,
     size_t handler_length, const uint16_t *schedule, size_t entries,
-    uint32_t *file, size_t registers, uint32_t *q, uint32_t *status)
+    uint32_t *file, size_t registers, uint32_t *q, uint32_t *status,
+    uint64_t *place)
 {
     struct model_machine machine = {*q, *status};
     struct model_verdict v = model_run_interrupted(
@@ -56,14 +62,22 @@ static struct end c_run_interrupted(
         file, registers, &machine);
     *q = machine.q;
     *status = machine.status;
-    return (struct end){v.reason, v.place};
+    *place = v.place;
+    return v.reason;
 }
 
 /*
  * The proved library: proved.h has two functions like the two above over its C
- * interface. run.sh links the archive.
+ * interface. run.sh links the archive; or, with BENCH_NATIVE, the same two and
+ * the library as native.sh compiles them.
  */
+#ifdef BENCH_NATIVE
+run_function proved_run;
+interrupted_function proved_run_interrupted;
+#else
+#define PROVED_LINKAGE static
 #include "proved.h"
+#endif
 
 /* The first is what the others are measured against. */
 static const struct engine engines[] = {
@@ -93,21 +107,23 @@ static struct state first_state(const struct bench_case *c)
 static uint64_t run_once(const struct engine *engine,
                          const struct bench_case *c, struct state *s)
 {
-    struct end end =
+    uint64_t place;
+    uint32_t reason =
         c->entries == 0
             ? engine->run(c->main.bytes, c->main.length, s->file,
                           MODEL_MOST_REGISTERS, &s->q, &s->status, 0,
-                          UINT64_MAX)
+                          UINT64_MAX, &place)
             : engine->run_interrupted(c->main.bytes, c->main.length,
                                       c->handler.bytes, c->handler.length,
                                       c->schedule, c->entries, s->file,
-                                      MODEL_MOST_REGISTERS, &s->q, &s->status);
-    if (end.reason != MODEL_DONE) {
+                                      MODEL_MOST_REGISTERS, &s->q, &s->status,
+                                      &place);
+    if (reason != MODEL_DONE) {
         fprintf(stderr, "%s refused %s: reason %" PRIu32 "\n", engine->name,
-                c->name, end.reason);
+                c->name, reason);
         exit(1);
     }
-    return end.place;
+    return place;
 }
 
 /* Processor time of this process in nanoseconds: what else runs on the machine
@@ -158,31 +174,143 @@ static void time_case(const struct bench_case *c, int repeats,
         }
 }
 
-static void print_row(const struct bench_case *c, const double best[ENGINES])
-{
-    printf("%-11s", c->name);
-    for (int e = 0; e < ENGINES; e++)
-        printf(" %10.2f", best[e]);
-    for (int e = 1; e < ENGINES; e++)
-        printf(" %10.2f", best[e] / best[0]);
-    printf("  %s\n", c->what);
-}
+/* ---- Printing ----------------------------------------------------------- */
 
-int main(int count, char **words)
+static void print_head(const char *rows, int repeats, const char *which)
 {
-    static struct bench_case c;
-    int repeats = count > 1 ? atoi(words[1]) : 25;
-    printf("nanoseconds a word, best of %d\n%-11s", repeats, "sheet");
+    printf("nanoseconds a word, best of %d%s\n%-11s", repeats, which, rows);
     for (int e = 0; e < ENGINES; e++)
         printf(" %10s", engines[e].name);
     for (int e = 1; e < ENGINES; e++)
         printf(" %10s", "ratio");
     printf("\n");
+}
+
+static void print_row(const char *name, const double times[ENGINES],
+                      const double ratios[ENGINES], const char *what)
+{
+    printf("%-11s", name);
+    for (int e = 0; e < ENGINES; e++)
+        printf(" %10.2f", times[e]);
+    for (int e = 1; e < ENGINES; e++)
+        printf(" %10.2f", ratios[e]);
+    printf("  %s\n", what);
+}
+
+static void set_ratios(const double times[ENGINES], double ratios[ENGINES])
+{
+    for (int e = 0; e < ENGINES; e++)
+        ratios[e] = times[e] / times[0];
+}
+
+static void print_table(int repeats)
+{
+    static struct bench_case c;
+    print_head("sheet", repeats, "");
     for (int i = 0; i < BENCH_CASES; i++) {
-        double best[ENGINES];
+        double times[ENGINES], ratios[ENGINES];
         bench_make(&c, i);
-        time_case(&c, repeats, best);
-        print_row(&c, best);
+        time_case(&c, repeats, times);
+        set_ratios(times, ratios);
+        print_row(c.name, times, ratios, c.what);
     }
+}
+
+/* ---- The operations one by one ------------------------------------------ */
+
+struct operation {
+    int opcode;
+    const char *name;
+    double times[ENGINES], ratios[ENGINES];
+};
+
+/* Times every operation and gives how many there are. */
+static int time_operations(struct operation *all, int repeats)
+{
+    static struct bench_case c;
+    int count = 0;
+    for (int opcode = 0; opcode < BENCH_OPCODES; opcode++)
+        if (bench_make_operation(&c, opcode)) {
+            struct operation *o = &all[count++];
+            o->opcode = opcode;
+            o->name = c.name;
+            time_case(&c, repeats, o->times);
+            set_ratios(o->times, o->ratios);
+        }
+    return count;
+}
+
+/* The highest ratio of the last engine first. */
+static int worse_first(const void *left, const void *right)
+{
+    double l = ((const struct operation *)left)->ratios[ENGINES - 1];
+    double r = ((const struct operation *)right)->ratios[ENGINES - 1];
+    return (l < r) - (l > r);
+}
+
+/* Means of the columns. That of the ratios is of the ratios, not the ratio of
+ * the two means of times: an operation counts the same whatever it costs. */
+static void print_mean(const struct operation *all, int count)
+{
+    double times[ENGINES] = {0}, ratios[ENGINES] = {0};
+    for (int i = 0; i < count; i++)
+        for (int e = 0; e < ENGINES; e++) {
+            times[e] += all[i].times[e] / count;
+            ratios[e] += all[i].ratios[e] / count;
+        }
+    char what[48];
+    snprintf(what, sizeof what, "arithmetic mean of all %d", count);
+    print_row("mean", times, ratios, what);
+}
+
+/* Prints the `rows` operations with the worst ratio. */
+static void print_operations(int repeats, int rows)
+{
+    static struct operation all[BENCH_OPCODES];
+    print_head("operation", repeats, ", the worst ratio first");
+    int count = time_operations(all, repeats);
+    qsort(all, (size_t)count, sizeof *all, worse_first);
+    for (int i = 0; i < count && i < rows; i++) {
+        char what[16];
+        snprintf(what, sizeof what, "opcode %02X", (unsigned)all[i].opcode);
+        print_row(all[i].name, all[i].times, all[i].ratios, what);
+    }
+    print_mean(all, count);
+}
+
+/* ---- What is asked for -------------------------------------------------- */
+
+enum { WORST = 20 };
+
+struct wish {
+    int repeats;
+    int rows; /* operations to print one by one; 0: the table of sheets */
+};
+
+/* False where the words of the command make no sense. */
+static int read_wish(char **words, struct wish *wish)
+{
+    *wish = (struct wish){25, 0};
+    for (; *words != NULL; words++)
+        if (strcmp(*words, "--each") == 0)
+            wish->rows = WORST;
+        else if (strcmp(*words, "all") == 0 && wish->rows != 0)
+            wish->rows = BENCH_OPCODES;
+        else if ((wish->repeats = atoi(*words)) < 1)
+            return 0;
+    return 1;
+}
+
+int main(int count, char **words)
+{
+    struct wish wish;
+    if (count < 1 || !read_wish(words + 1, &wish)) {
+        fprintf(stderr, "usage: harness [--each [all]] [REPEATS]\n");
+        return 2;
+    }
+    if (wish.rows == 0)
+        print_table(wish.repeats);
+    else
+        print_operations(wish.repeats, wish.rows);
     return 0;
 }

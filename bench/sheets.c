@@ -161,20 +161,46 @@ static void put_scoring(struct bench_sheet *sheet, size_t words)
     }
 }
 
-/* ---- The other sheets --------------------------------------------------- */
+/* ---- The operations ----------------------------------------------------- */
 
-/* ADD alone, over all byte codes. */
-static void put_adds(struct bench_sheet *sheet, size_t words)
-{
-    uint64_t x = 42;
-    while (words_in(sheet) < words)
-        put(sheet, op(OP_ADD, (enum byte_code)below(&x, 4), below(&x, 32),
-                      below(&x, 32), below(&x, 32)));
-}
+/* The manual's mnemonics by opcode; empty where it has no page. */
+static const char *const mnemonics[BENCH_OPCODES] = {
+    "ZERO-EXTA", "ZERO-EXTB", "SIGN-EXTA", "SIGN-EXTB",
+    "PASS-STAT", "PASS-Q", "LOADQ-A", "LOADQ-B",
+    "NOT-A", "NOT-B", "NEG-A", "NEG-B",
+    "PRIOR-A", "PRIOR-B", "MERGEA-B", "MERGEB-A",
+    "DECR-A", "DECR-B", "INCR-A", "INCR-B",
+    "DECR2-A", "DECR2-B", "INCR2-A", "INCR2-B",
+    "DECR4-A", "DECR4-B", "INCR4-A", "INCR4-B",
+    "LDSTAT-A", "LDSTAT-B", "", "",
+    "DN1-0F-A", "DN1-0F-B", "DN1-0F-AQ", "DN1-0F-BQ",
+    "DN1-1F-A", "DN1-1F-B", "DN1-1F-AQ", "DN1-1F-BQ",
+    "DN1-LF-A", "DN1-LF-B", "DN1-LF-AQ", "DN1-LF-BQ",
+    "DN1-AR-A", "DN1-AR-B", "DN1-AR-AQ", "DN1-AR-BQ",
+    "UP1-0F-A", "UP1-0F-B", "UP1-0F-AQ", "UP1-0F-BQ",
+    "UP1-1F-A", "UP1-1F-B", "UP1-1F-AQ", "UP1-1F-BQ",
+    "UP1-LF-A", "UP1-LF-B", "UP1-LF-AQ", "UP1-LF-BQ",
+    "ZERO", "SIGN", "OR", "XOR",
+    "AND", "XNOR", "ADD", "ADDC",
+    "SUB", "SUBC", "SUBR", "SUBRC",
+    "SUM-CORR-A", "SUM-CORR-B", "DIFF-CORR-A", "DIFF-CORR-B",
+    "", "", "SDIVFIRST", "UDIVFIRST",
+    "SDIVSTEP", "SDIVLAST1", "MPDIVSTEP1", "MPSDIVSTEP3",
+    "UDIVSTEP", "UDIVLAST", "MPDIVSTEP2", "MPUDIVSTP3",
+    "REMCORR", "QUOCORR", "SDIVLAST2", "UMULFIRST",
+    "UMULSTEP", "UMULLAST", "SMULSTEP", "SMULFIRST",
+    "NB-SN-SHA", "NB-SN-SHB", "NB-0F-SHA", "NB-0F-SHB",
+    "NBROT-A", "NBROT-B", "EXTBIT-A", "EXTBIT-B",
+    "SETBIT-A", "SETBIT-B", "RSTBIT-A", "RSTBIT-B",
+    "SETBIT-STAT", "RSTBIT-STAT", "NOTF-AL-B", "PASSF-AL-B",
+    "NOTF-A", "NOTF-AL-A", "PASSF-A", "PASSF-AL-A",
+    "ORF-A", "ORF-AL-A", "XORF-A", "XORF-AL-A",
+    "ANDF-A", "ANDF-AL-A", "EXTF-A", "EXTF-B",
+    "EXTF-AB", "EXTF-BA", "EXTBIT-STAT", "PASS-MASK"};
 
 static int has_page(int opcode)
 {
-    return opcode >> 1 != 0x1E >> 1 && opcode >> 1 != 0x4C >> 1;
+    return mnemonics[opcode][0] != '\0';
 }
 
 /* A word with any fields, on registers 0 to 31. */
@@ -193,14 +219,40 @@ static struct model_word any_word(uint64_t *x, int opcode)
     return word;
 }
 
+/* One operation alone, with the same fields whichever it is, so that two
+ * operations can be compared. It reads all 64 registers and writes the lower
+ * half, so that half of what it reads stays as drawn: left to its own results,
+ * many an operation would soon see nothing but zeros. */
+static void put_operation(struct bench_sheet *sheet, int opcode, size_t words)
+{
+    uint64_t x = 124;
+    while (words_in(sheet) < words) {
+        struct model_word word = any_word(&x, opcode);
+        word.a = (uint8_t)below(&x, 64);
+        word.b = (uint8_t)below(&x, 64);
+        put(sheet, word);
+    }
+}
+
+/* ---- The other sheets --------------------------------------------------- */
+
+/* ADD alone, over all byte codes. */
+static void put_adds(struct bench_sheet *sheet, size_t words)
+{
+    uint64_t x = 42;
+    while (words_in(sheet) < words)
+        put(sheet, op(OP_ADD, (enum byte_code)below(&x, 4), below(&x, 32),
+                      below(&x, 32), below(&x, 32)));
+}
+
 /* All 124 operations, each as often as any other, in an order drawn anew for
  * each round of 124 words. */
 static void put_mix(struct bench_sheet *sheet, size_t words)
 {
     uint64_t x = 7;
     while (words_in(sheet) < words) {
-        int order[128], count = 0;
-        for (int opcode = 0; opcode < 128; opcode++)
+        int order[BENCH_OPCODES], count = 0;
+        for (int opcode = 0; opcode < BENCH_OPCODES; opcode++)
             if (has_page(opcode))
                 order[count++] = opcode;
         for (; count > 0; count--) {
@@ -258,18 +310,33 @@ static const struct plan plans[BENCH_CASES] = {
     {"storm", "900 words: scoring; the same handler after every word",
      put_scoring, 900, 1}};
 
+/* A case with no words yet. Its registers are drawn by `number`. */
+static void open_case(struct bench_case *c, const char *name, int number)
+{
+    memset(c, 0, sizeof *c);
+    c->name = name;
+    fill_file(c, 0x9E3779B97F4A7C15u + (uint64_t)number);
+    open_sheet(&c->main);
+    open_sheet(&c->handler);
+}
+
 void bench_make(struct bench_case *c, int i)
 {
     const struct plan *plan = &plans[i];
-    memset(c, 0, sizeof *c);
-    c->name = plan->name;
+    open_case(c, plan->name, i);
     c->what = plan->what;
-    fill_file(c, 0x9E3779B97F4A7C15u + (uint64_t)i);
-    open_sheet(&c->main);
-    open_sheet(&c->handler);
     plan->put(&c->main, plan->words);
     if (plan->every != 0) {
         put_handler(&c->handler);
         put_schedule(c, plan->every);
     }
+}
+
+int bench_make_operation(struct bench_case *c, int opcode)
+{
+    if (!has_page(opcode))
+        return 0;
+    open_case(c, mnemonics[opcode], 124);
+    put_operation(&c->main, opcode, 1000);
+    return 1;
 }

@@ -17,7 +17,7 @@ struct bench_sheet {
 /* One row of the table. Where `entries` is not 0 it is an interrupted run. */
 struct bench_case {
     const char *name;
-    const char *what;
+    const char *what; /* NULL for one operation alone */
     struct bench_sheet main, handler;
     size_t entries;
     uint16_t schedule[MODEL_MOST_ENTRIES];
@@ -25,9 +25,13 @@ struct bench_case {
     struct model_machine machine;
 };
 
-enum { BENCH_CASES = 7 };
+enum { BENCH_CASES = 7, BENCH_OPCODES = 128 };
 
 /* Makes case number `i`, 0 to BENCH_CASES - 1. */
 void bench_make(struct bench_case *c, int i);
+
+/* Makes a case of 1,000 words of one operation, named by its mnemonic. Gives 0
+ * and makes nothing where the opcode has no page. */
+int bench_make_operation(struct bench_case *c, int opcode);
 
 #endif
