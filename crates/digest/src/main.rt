@@ -57,11 +57,11 @@ fn high(x: u64) -> u32 {
     (x / 0x1_0000_0000) as u32
 }
 
-// The given number of values, from bit `at` of x up.
-fn part(x: u64, at: u32, values: u64) -> u32
-    requires { ⌜ (at < 64) × (0 < values) × (values < 65) ⌝ }
+// The given number of values, a power of two up to 64, from bit `at` of x up.
+fn part(x: u64, at: u32, values: u32) -> u32
+    requires { ⌜ (at < 64) × (0 < values) ⌝ }
 {
-    ((x >> at) % values) as u32
+    ((x >> at) % 64) as u32 % values
 }
 
 fn pattern(k: u32) -> u32 {
@@ -179,15 +179,21 @@ fn folded(sum: u64, answer: SingleAnswer) -> u64 {
     )
 }
 
-// The generator as an opcode's line starts.
+fn four_steps(x: u64) -> u64 {
+    next(next(next(next(x))))
+}
+
+// The generator as an opcode's line starts: after sixteen steps.
 fn start(opcode: u32) -> u64 {
-    let mut x = 0x9e37_79b9_7f4a_7c15 ^ opcode as u64;
-    let mut k: u32 = 0;
-    while k < 16 {
-        x = next(x);
-        k += 1;
+    let seed = 0x9e37_79b9_7f4a_7c15 ^ opcode as u64;
+    four_steps(four_steps(four_steps(four_steps(seed))))
+}
+
+fn draw(opcode: u32, i: u32, seed: u64) -> Drawn {
+    if i < SYSTEMATIC {
+        return systematic(opcode, i, seed);
     }
-    x
+    random(opcode, seed)
 }
 
 // The digest of all cases of one opcode number.
@@ -203,13 +209,6 @@ fn digest(opcode: u32) -> u64 {
         i += 1;
     }
     sum
-}
-
-fn draw(opcode: u32, i: u32, seed: u64) -> Drawn {
-    if i < SYSTEMATIC {
-        return systematic(opcode, i, seed);
-    }
-    random(opcode, seed)
 }
 
 fn report(opcode: u32) {

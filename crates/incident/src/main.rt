@@ -1,52 +1,11 @@
-// The incident's choice (docs/INCIDENT.md) on every pair of eight distances: which word was heard beside which is nearer. The sheet is
-// examples/sheets/fifteen.words; a line has the distances to 'fifteen' and to 'fifty', the word that the sheet chose and the nearer word.
+// The incident's choice (docs/INCIDENT.md) on every pair of eight distances: which word was heard beside which is nearer. It reads the sheet
+// of examples/sheets/fifteen.words, packed, and leaves the registers after it; a line has the distances to 'fifteen' and to 'fifty', the word that
+// the sheet chose and the nearer word.
+use lines::print_word;
 use machine::Machine;
 
-// SUB on three bytes, EXTBIT-STAT of bit 14, NEG-A, and XOR, AND, XOR to choose register 5 where the bit is 1, register 4 where it is 0.
-const CHOICE: [u8; 40] = [
-    0x10,
-    0x06,
-    0x0e,
-    0x00,
-    0x89,
-    0x80,
-    0x00,
-    0x01,
-    0x0a,
-    0x00,
-    0xfc,
-    0x1c,
-    0x00,
-    0x00,
-    0x0e,
-    0x00,
-    0x14,
-    0x00,
-    0x00,
-    0xc0,
-    0x0e,
-    0x00,
-    0x7e,
-    0x00,
-    0x01,
-    0x05,
-    0x1a,
-    0x00,
-    0x80,
-    0x00,
-    0x00,
-    0xc6,
-    0x1a,
-    0x00,
-    0x7e,
-    0x00,
-    0x01,
-    0x06,
-    0x1a,
-    0x00,
-];
-
-// How many words it has.
+// How many words the sheet has: SUB on three bytes, EXTBIT-STAT of bit 14, NEG-A, and XOR, AND, XOR to choose register 5 where the bit is 1,
+// register 4 where it is 0.
 const WORDS: usize = 6;
 
 // Distances on three bytes: around zero, around the ends of the signed numbers, and those of the incident.
@@ -69,9 +28,9 @@ const FIFTEEN: u32 = 0x15;
 const FIFTY: u32 = 0x50;
 
 // The word that the sheet chooses, left in register 6.
-fn heard(fifteen: u32, fifty: u32) -> u32 {
+fn heard(sheet: &[u8], fifteen: u32, fifty: u32) -> u32 {
     let mut file = [fifteen, fifty, 0, 0, FIFTY, FIFTEEN, 0];
-    run::run(&CHOICE, &mut file, Machine::fresh(), 0, WORDS);
+    run::run(sheet, &mut file, Machine::fresh(), 0, WORDS);
     file[6]
 }
 
@@ -83,24 +42,24 @@ fn nearer(fifteen: u32, fifty: u32) -> u32 {
     FIFTY
 }
 
-fn print_word(x: u32, after: u8) {
-    let digits = text::hex8(x);
-    io::write_all(1, &digits);
-    let end = [after; 1];
-    io::write_all(1, &end);
-}
-
-fn print_choice(fifteen: u32, fifty: u32) {
+fn print_choice(sheet: &[u8], fifteen: u32, fifty: u32) {
     print_word(fifteen, b' ');
     print_word(fifty, b' ');
-    print_word(heard(fifteen, fifty), b' ');
+    print_word(heard(sheet, fifteen, fifty), b' ');
     print_word(nearer(fifteen, fifty), b'\n');
 }
 
+// The pair of a number below 64.
+fn print_pair(sheet: &[u8], pair: usize) {
+    print_choice(sheet, DISTANCES[pair / 8 % 8], DISTANCES[pair % 8]);
+}
+
 fn main() {
+    let mut sheet = [0u8; 40];
+    io::read_full(0, &mut sheet);
     let mut pair: usize = 0;
     while pair < PAIRS {
-        print_choice(DISTANCES[pair / 8 % 8], DISTANCES[pair % 8]);
+        print_pair(&sheet, pair);
         pair += 1;
     }
 }

@@ -2,111 +2,57 @@
 // many the proved one misses and where the first miss is.
 use chip::SingleAnswer;
 use chip::SingleWord;
-ghost use Prim.Native.Nat.{_+_, _≤_, _<_};
+use lines::Tally;
+use lines::number_at;
+ghost use mathlib.Core.Path.{_≡_};
+ghost use lib.ListN.{length};
 
-const LINE: usize = 93;
-
-// Past this many lines the rest is not read.
-const MOST: u32 = 1000000;
-
-// How many cases were tried and missed, and the number of the first line that was missed, counted from 1; 0 if none was.
-pub struct Tally {
-    pub cases: u32,
-    pub missed: u32,
-    pub first: u32,
-}
-
-fn value(digit: u8) -> u32 {
-    if 65 <= digit {
-        return (digit - 55) as u32 % 16;
-    }
-    if 48 <= digit {
-        return (digit - 48) as u32 % 16;
-    }
-    0
-}
-
-// The hex number of two digits at a place of the line.
-fn two(line: &[u8; 93], at: usize) -> u32
-    requires { ⌜ at + 2 ≤ 93 ⌝ }
-    ensures { λ r. ⌜ r < 256 ⌝ }
+fn case(line: &[u8]) -> SingleWord
+    requires { ⌜ length (now line) ≡ 93 ⌝ }
 {
-    value(line[at]) % 16 * 16 + value(line[at + 1]) % 16
-}
-
-// The hex number of eight digits.
-fn eight(line: &[u8; 93], at: usize) -> u32
-    requires { ⌜ at + 8 ≤ 93 ⌝ }
-{
-    two(line, at) * 0x100_0000
-        + two(line, at + 2) * 0x1_0000
-        + two(line, at + 4) * 0x100
-        + two(line, at + 6)
-}
-
-fn case(line: &[u8; 93]) -> SingleWord {
     SingleWord {
-        opcode: two(line, 0),
-        code: two(line, 3),
-        position: two(line, 6),
-        width: two(line, 9),
-        select: two(line, 12),
-        carry: two(line, 15),
-        link: two(line, 18),
-        borrow: two(line, 21),
-        a: eight(line, 24),
-        b: eight(line, 33),
-        q: eight(line, 42),
-        status: eight(line, 51),
+        opcode: number_at(line, 0, 2),
+        code: number_at(line, 3, 2),
+        position: number_at(line, 6, 2),
+        width: number_at(line, 9, 2),
+        select: number_at(line, 12, 2),
+        carry: number_at(line, 15, 2),
+        link: number_at(line, 18, 2),
+        borrow: number_at(line, 21, 2),
+        a: number_at(line, 24, 8),
+        b: number_at(line, 33, 8),
+        q: number_at(line, 42, 8),
+        status: number_at(line, 51, 8),
     }
 }
 
 // Whether an answer is the one that the line has.
-fn right(line: &[u8; 93], answer: SingleAnswer) -> bool {
+fn same(line: &[u8], answer: SingleAnswer) -> bool
+    requires { ⌜ length (now line) ≡ 93 ⌝ }
+{
     let reason = answer.reason;
-    if reasons::number(reason) != two(line, 60) {
+    if reasons::number(reason) != number_at(line, 60, 2) {
         return false;
     }
     if answer.place != 0 {
         return false;
     }
-    if answer.parity != two(line, 63) {
+    if answer.parity != number_at(line, 63, 2) {
         return false;
     }
-    if answer.y != eight(line, 66) {
+    if answer.y != number_at(line, 66, 8) {
         return false;
     }
-    if answer.q != eight(line, 75) {
+    if answer.q != number_at(line, 75, 8) {
         return false;
     }
-    answer.status == eight(line, 84)
+    answer.status == number_at(line, 84, 8)
 }
 
-// The tally after one line more, the line's number being `number`.
-fn tried(line: &[u8; 93], tally: Tally, number: u32) -> Tally
-    requires { ⌜ (tally .cases < 1000000) × (tally .missed < 1000000) ⌝ }
-    ensures { λ r. ⌜ (r .cases ≤ tally .cases + 1) × (r .missed ≤ tally .missed + 1) ⌝ }
+fn right(line: &[u8]) -> bool
+    requires { ⌜ length (now line) ≡ 93 ⌝ }
 {
-    let cases = tally.cases + 1;
-    if right(line, chip::single_word(case(line))) {
-        return Tally {
-            cases,
-            missed: tally.missed,
-            first: tally.first,
-        };
-    }
-    if tally.missed == 0 {
-        return Tally {
-            cases,
-            missed: 1,
-            first: number,
-        };
-    }
-    Tally {
-        cases,
-        missed: tally.missed + 1,
-        first: tally.first,
-    }
+    same(line, chip::single_word(case(line)))
 }
 
 fn all() -> Tally {
@@ -116,27 +62,15 @@ fn all() -> Tally {
         first: 0,
     };
     let mut line = [0u8; 93];
-    let mut k: u32 = 0;
-    while k < MOST {
-        let got = io::read_full(0, &mut line);
-        if got < LINE {
+    while tally.cases < lines::MOST {
+        if !lines::read(&mut line) {
             return tally;
         }
-        tally = tried(&line, tally, k + 1);
-        k += 1;
+        tally = lines::counted(tally, right(&line));
     }
     tally
 }
 
 fn main() {
-    let tally = all();
-    io::print_decimal(1, tally.cases as u64);
-    io::write_all(1, b" cases, ");
-    io::print_decimal(1, tally.missed as u64);
-    io::write_all(1, b" missed");
-    if tally.missed != 0 {
-        io::write_all(1, b", the first in line ");
-        io::print_decimal(1, tally.first as u64);
-    }
-    io::write_all(1, b"\n");
+    lines::print_tally(all());
 }

@@ -10,25 +10,5 @@ Inv-loop opcode₀ opcode = Unit {0}
 abbrev μ-loop : tie.MeasureT-loop
 μ-loop opcode₀ opcode = 128 - opcode
 
-loop-holds : tie.Need-loop-holds Inv-loop μ-loop
-loop-holds c = search needs
-
-report-requires : tie.Need-report-requires Inv-loop μ-loop
-report-requires c κs = search needs
-
-add-opcode : tie.Need-add-opcode Inv-loop μ-loop
-add-opcode c = search needs
-
-loop-less : tie.Need-loop-less Inv-loop μ-loop
-loop-less c = search needs
-
-loop-again : tie.Need-loop-again Inv-loop μ-loop
-loop-again c = search needs
-
-returns : tie.Need-returns Inv-loop μ-loop
-returns c = search needs
-
 pub main-spec : {M : Type 1} → statement M
-main-spec =
-    tie.close
-    (tie.spec Inv-loop μ-loop loop-holds report-requires add-opcode loop-less loop-again returns)
+main-spec = tie.close (tie.spec Inv-loop μ-loop (search needs) (search needs) (search needs) (search needs) (search needs) (search needs))

@@ -3,43 +3,21 @@ use borrow.Author.Needs.{needs}
 use Rattle.text.proofs.hex8.Statement.{statement}
 use Rattle.text.proofs.hex8.Tie as tie
 
-digit-requires : tie.Need-digit-requires
-digit-requires c κs = search needs
-
-digit-requires-2 : tie.Need-digit-requires-2
-digit-requires-2 c κs = search needs
-
-digit-requires-3 : tie.Need-digit-requires-3
-digit-requires-3 c κs = search needs
-
-digit-requires-4 : tie.Need-digit-requires-4
-digit-requires-4 c κs = search needs
-
-digit-requires-5 : tie.Need-digit-requires-5
-digit-requires-5 c κs = search needs
-
-digit-requires-6 : tie.Need-digit-requires-6
-digit-requires-6 c κs = search needs
-
-digit-requires-7 : tie.Need-digit-requires-7
-digit-requires-7 c κs = search needs
-
-digit-requires-8 : tie.Need-digit-requires-8
-digit-requires-8 c κs = search needs
-
 returns : tie.Need-returns
-returns c = rw (c .digit8 .ensures, c .before .digit7 .ensures, c .before .before .digit6 .ensures, c .before .before .before .digit5 .ensures, c .before .before .before .before .digit4 .ensures, c .before .before .before .before .before .digit3 .ensures, c .before .before .before .before .before .before .digit2 .ensures, c .before .before .before .before .before .before .before .digit .ensures)
+returns c =
+    let c4 = c .before .before .before .before in
+    rw (
+      c .digit8 .ensures,
+      c .before .digit7 .ensures,
+      c .before .before .digit6 .ensures,
+      c .before .before .before .digit5 .ensures,
+      c4 .digit4 .ensures,
+      c4 .before .digit3 .ensures,
+      c4 .before .before .digit2 .ensures,
+      c4 .before .before .before .digit .ensures,
+    )
 
 pub hex8-spec : {M : Type 1} → statement M
 hex8-spec =
     tie.close
-    (tie.spec
-    digit-requires
-    digit-requires-2
-    digit-requires-3
-    digit-requires-4
-    digit-requires-5
-    digit-requires-6
-    digit-requires-7
-    digit-requires-8
-    returns)
+    (tie.spec (search needs) (search needs) (search needs) (search needs) (search needs) (search needs) (search needs) (search needs) returns)
