@@ -14,7 +14,8 @@ use Rattle.sheet.specs.declared.Which.{Which}
 use Rattle.sheet.specs.declared.Which.the-variants.{Main, Handler}
 use Rattle.sheet.specs.declared.Given.{Given}
 use Rattle.sheet.specs.declared.Given.the-variants.{Absent, Number}
-use Rattle.packing.specs.Packing.{number6, fieldsOf, spareOf, lacksPage, some, named, differ, InRange}
+use Rattle.chip.specs.Single.{lacksPage}
+use Rattle.packing.specs.Packing.{number6, fieldsOf, spareOf, some, named, differ, InRange}
 
 -- ---- the header: four bytes as one number of 32 bits
 abbrev pub number4 : List ℕ → ℕ
