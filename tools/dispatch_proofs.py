@@ -1,115 +1,123 @@
 #!/usr/bin/env python3
 """dispatch_proofs.py [--check]
 
-Writes the proofs of the functions that are one `match` from a number to a call: the six families by an operation's place, and the run's
-dispatch by its opcode. Each is read from its source, so a new arm wants this run again and nothing else. With --check it writes nothing,
-names the files that are not what it would write, and exits 1 if there are any."""
+Writes what follows from the tables of operations: the arms of dispatch::operate, from chip's decode, perform and glossary; and the proofs of
+the functions that are one `match` from a number to a call, from their arms: each family's by place, and operate. Run it after a change of one
+of these. With --check it writes nothing, names the files that are not what it would write, and exits 1 if there are any."""
 import pathlib
 import re
 import sys
 
-ROOT = pathlib.Path(__file__).resolve().parent.parent
+CRATES = pathlib.Path(__file__).resolve().parent.parent / "crates"
 FAMILIES = [("shifts", "shift"), ("arithmetic", "decimal"), ("multiply", "multiply"), ("divide", "divide"), ("fields", "field"), ("chip", "basic")]
 
-# What a call requires, where that is more than `search needs` finds: the callee's A* is below the weight that its width gives.
+# What a call requires, where `search needs` does not find it: A* is below the weight that the width gives.
 EXTENDED = "(λ c κs. (search needs, rw (← c .before .before .bits .ensures .0) (search needs)))"
-REQUIRED = {("multiply", "first_step"): EXTENDED, ("multiply", "step"): EXTENDED}
+REQUIRES = {("multiply", "first_step"): EXTENDED, ("multiply", "step"): EXTENDED}
 
 FAMILY = """\
 -- Each arm's call gives the entry of `{table}` at its number, and the default's the last entry. Written by tools/dispatch_proofs.py.
 -- Assumes nothing.
 use mathlib.Core.Path.{{refl}}
 use Rattle.bits.proofs.Rest.{{last-entry}}
-{uses}
-use borrow.Author.Needs.{{needs}}
-use Rattle.{crate}.proofs.{function}.Statement.{{statement}}
-use Rattle.{crate}.proofs.{function}.Tie as tie
-"""
+{uses}"""
 
 OPERATE = """\
 -- Each arm's call gives the page of its number, and no number below 128 is left to the default. Written by tools/dispatch_proofs.py.
 -- Assumes nothing.
-use Rattle.chip.proofs.Pages.{{at, past-all}}
-use borrow.Author.Needs.{{needs}}
+use Rattle.chip.proofs.Pages.{at, past-all}
+"""
+
+PROOF = """\
+{head}use borrow.Author.Needs.{{needs}}
 use Rattle.{crate}.proofs.{function}.Statement.{{statement}}
 use Rattle.{crate}.proofs.{function}.Tie as tie
+
+pub {function}-spec : {{M : Type 1}} → statement M
+{function}-spec =
+    tie.close
+    (tie.spec
+    {requires}
+    {returns})
 """
 
 
+def read(path):
+    return (CRATES / path).read_text(encoding="utf-8") if (CRATES / path).exists() else ""
+
+
 def calls(code):
-    """The functions called in a line of code, in the order in which they are."""
-    found, open_ = [], []
+    """The functions that a line of code calls, in order: those in a call's arguments before it."""
+    done, begun = [], []
     for name, end in re.findall(r"([\w:.]*)\(|(\))", code):
         if end:
-            found.append(open_.pop())
+            done.append(begun.pop())
         else:
-            open_.append(re.split(r"::|\.", name)[-1])
-    return found
+            begun.append(re.split("::|[.]", name)[-1])
+    return done
 
 
-def places(code):
-    """How many places of the proof an arm's code passes: a call is one, and so is an operator on a field."""
-    return len(calls(code)) + len(re.findall(r"![\w]+\.\w+[,)]|[\w)](?:\.\w+)? [|&^] ", code))
+def filled(answers):
+    """As many answers to a line as fit."""
+    lines = [answers[0]]
+    for answer in answers[1:]:
+        if len(lines[-1]) + len(answer) < 145:
+            lines[-1] += " " + answer
+        else:
+            lines.append(answer)
+    return "\n    ".join(lines)
 
 
-def filled(answers, width=150):
-    """The answers, as many to a line as fit."""
-    lines = [""]
-    for answer in answers:
-        if len(lines[-1]) + len(answer) + 5 > width:
-            lines.append("")
-        lines[-1] += " " + answer
-    return "\n   ".join(lines)
-
-
-def proof(crate, function):
-    source = (ROOT / "crates" / crate / "src" / "lib.rt").read_text()
-    code = re.search(r"pub fn %s\(.*?\n}\n" % function, source, re.S).group()
-    before, match = code.split("    match ")
+def proof(crate, function, source):
+    before, match = re.search(r"pub fn %s\(.*?\n}\n" % function, source, re.S).group().split("    match ")
     arms = re.findall(r"^        (\w+) => (.*),(?: //.*)?$", match, re.M)
-    requires = [REQUIRED.get((crate, f), "(search needs)") for line in [before.split("\n{\n")[1]] + [a for _, a in arms] for f in calls(line)]
     family = re.search(r"getD (\S+) k (\S+) x", before)
-    returns, seen = [], {}
-    for number, (key, arm) in enumerate(arms, 1):
-        told = "c" + " .before" * places(arm) + " .match ." + ("rest" if key == "_" else "keys%d" % number)
+    requires = [REQUIRES.get((crate, name), "(search needs)") for code in [before.split("\n{\n")[1]] + [arm for _, arm in arms] for name in calls(code)]
+    returns, times = [], {}
+    for number, (key, arm) in enumerate(arms):
+        # what is known of the matched number stands before each call, and before an operator on an input
+        known = "c" + " .before" * (len(calls(arm)) + len(re.findall(r"[!|&^] ?x\.", arm))) + (" .match .rest" if key == "_" else " .match .keys%d" % (number + 1))
         callee = calls(arm)[-1].replace("_", "-")
-        seen[callee] = seen.get(callee, 0) + 1
-        ensures = "c .%s%s .ensures" % (callee, seen[callee] if seen[callee] > 1 else "")
-        if len(calls(arm)) > 1:
-            ensures = "cc"
-        if family and key == "_":
-            returns.append("(λ c. rw (last-entry %s %s %d _ refl (%s)) (%s))" % (*family.groups(), number - 1, told, ensures))
-        elif family:
-            returns.append("(λ c. rw (%s) (%s))" % (told, ensures))
+        times[callee] = times.get(callee, 0) + 1
+        ensures = "c .%s%s .ensures" % (callee, times[callee] if times[callee] > 1 else "") if len(calls(arm)) == 1 else "cc"
+        if not family:
+            returns.append("(λ c. %s _ (%s) (%s))" % ("past-all _" if key == "_" else "at", known, ensures))
+        elif key == "_":
+            returns.append("(λ c. rw (last-entry %s %s %d _ refl (%s)) (%s))" % (*family.groups(), number, known, ensures))
         else:
-            returns.append("(λ c. %s _ (%s) (%s))" % ("past-all _" if key == "_" else "at", told, ensures))
+            returns.append("(λ c. rw (%s) (%s))" % (known, ensures))
+    head = OPERATE
     if family:
-        names = {m: [n for n in family.groups() if n in re.split(r"[{}, ]+", line)] for m, line in re.findall(r"^ghost use (\S+)\.({.*});", source, re.M)}
-        head = FAMILY.format(table=family.group(1), crate=crate, function=function, uses="\n".join("use %s.{%s}" % (m, ", ".join(n)) for m, n in names.items() if n))
-    else:
-        head = OPERATE.format(crate=crate, function=function)
-    return head + """
-pub %s-spec : {M : Type 1} → statement M
-%s-spec =
-    tie.close
-    (tie.spec
-   %s
-   %s)
-""" % (function, function, filled(requires), filled(returns))
+        imports = [(module, [name for name in family.groups() if name in names.split(", ")]) for module, names in re.findall(r"^ghost use (\S+)\.{(.*)};", source, re.M)]
+        head = FAMILY.format(table=family.group(1), uses="".join("use %s.{%s}\n" % (module, ", ".join(names)) for module, names in imports if names))
+    return PROOF.format(head=head, crate=crate, function=function, requires=filled(requires), returns=filled(returns))
+
+
+def operate(source):
+    """The dispatch's source, with an arm for each number: its family, asked for its place there."""
+    chip = read("chip/src/lib.rt")
+    ranges = re.findall(r"0x(..)\.\.=0x(..) => Decoded::Known\(Operation::(\w+)\(n(?: - 0x(..))?\)\)", chip)
+    functions = {family: function if "::" in function else "chip::" + function for family, function in re.findall(r"Operation::(\w+)\(k\) => ([\w:]+)\(k, x\)", chip)}
+    glossary = re.findall(r"page ([A-Z]\S*) ∷|no-page ∷", read("chip/specs/Glossary.antt"))
+    arms = ["        0x%02x => unchanged(x),\n" % n for n in range(128)]
+    for first, last, family, start in ranges:
+        for n in range(int(first, 16), int(last, 16) + 1):
+            arms[n] = "        0x%02x => %s(0x%02x, x), // %s\n" % (n, functions[family], n - int(start or "0", 16), glossary[n])
+    return re.sub(r"(    match opcode {\n).*?(        _ =>)", lambda m: m.group(1) + "".join(arms) + m.group(2), source, flags=re.S)
 
 
 def main():
-    stale = 0
+    texts = {"dispatch/src/lib.rt": operate(read("dispatch/src/lib.rt"))}
     for crate, function in FAMILIES + [("dispatch", "operate")]:
-        path = ROOT / "crates" / crate / "proofs" / function / "Proof.antt"
-        text = proof(crate, function)
-        if path.exists() and path.read_text() == text:
-            continue
-        stale = 1
-        print(path.relative_to(ROOT))
+        path = crate + "/src/lib.rt"
+        texts["%s/proofs/%s/Proof.antt" % (crate, function)] = proof(crate, function, texts.get(path) or read(path))
+    stale = [path for path, text in texts.items() if read(path) != text]
+    for path in stale:
+        print("crates/" + path)
         if "--check" not in sys.argv:
-            path.write_text(text)
-    sys.exit(stale if "--check" in sys.argv else 0)
+            (CRATES / path).parent.mkdir(parents=True, exist_ok=True)
+            (CRATES / path).write_text(texts[path], encoding="utf-8")
+    sys.exit(1 if stale and "--check" in sys.argv else 0)
 
 
 main()

@@ -19,8 +19,9 @@ fn unchanged(x: Inputs) -> Outputs
     }
 }
 
-// An opcode number on what stands at the chip. Families are asked for one operation by its place in them, which the compiler resolves. The
+// An opcode number on what stands at the chip. Each family is asked for one operation by its place there, which the compiler resolves. The
 // four numbers below 128 with no page have arms of their own, so that seven bits always find an entry and the jump needs no test.
+// tools/dispatch_proofs.py writes the arms from `chip::decode`, `chip::perform` and the glossary.
 pub fn operate(opcode: u32, x: Inputs) -> Outputs
     requires { ⌜ Sound x ⌝ }
     ensures { λ r. ⌜ r ≡ performOf opcode x ⌝ }
