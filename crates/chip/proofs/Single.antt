@@ -11,7 +11,7 @@ use Rattle.chip.specs.declared.Operation.{Operation}
 use Rattle.chip.specs.declared.Decoded.the-variants.{Known, Opcode}
 use Rattle.chip.specs.Glossary.{Page, pageOf, performOf}
 use Rattle.chip.specs.Operations.{decodedOf}
-use Rattle.chip.specs.Single.{noPage, outOfRange, singleInputs, performed, refusedAs, unless, singleOf}
+use Rattle.chip.specs.Single.{noPage, lacksPage, outOfRange, singleInputs, performed, refusedAs, unless, singleOf}
 use Rattle.chip.proofs.Pages.{pageFor, page-decoded}
 
 module _ (s : SingleWord) where
@@ -23,7 +23,7 @@ module _ (s : SingleWord) where
   tested = outOfRange (s .code) (s .position) (s .width) (s .select) (s .carry) (s .link) (s .borrow)
 
   from-rows : by-rows (pageOf (s .opcode)) tested ≡ singleOf s
-  unfolding by-rows tested singleOf
+  unfolding by-rows tested lacksPage singleOf
   from-rows = refl
 
   pub refused-opcode : decodedOf (s .opcode) ≡ Opcode → refusedAs NoOpcode s ≡ singleOf s

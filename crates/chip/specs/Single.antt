@@ -24,6 +24,10 @@ abbrev pub noPage : Page → Bool
 noPage (page f) = false
 noPage no-page = true
 
+-- above 127, or no page in chapter 2
+unfoldable pub lacksPage : ℕ → Bool
+lacksPage n = noPage (pageOf n)
+
 -- byte code above 3, position above 63, width above 31, a switch above 1
 unfoldable pub outOfRange : ℕ → ℕ → ℕ → ℕ → ℕ → ℕ → ℕ → Bool
 outOfRange code position width select carry link borrow =
@@ -31,7 +35,7 @@ outOfRange code position width select carry link borrow =
 
 abbrev pub singleRows : SingleWord → List Row
 singleRows s =
-    (noPage (pageOf (s .opcode)) gives Opcode at 0)
+    (lacksPage (s .opcode) gives Opcode at 0)
     ∷ (outOfRange (s .code) (s .position) (s .width) (s .select) (s .carry) (s .link) (s .borrow) gives InputsReason at 0)
     ∷ []
 

@@ -4,12 +4,14 @@ use machine::Machine;
 use machine::Outputs;
 use reasons::Reason;
 ghost use mathlib.Core.Path.{_≡_};
+ghost use lib.ListN.{getD};
 ghost use Rattle.machine.specs.Inputs.{Sound};
 ghost use Rattle.machine.specs.Core.{shownBy};
-ghost use Rattle.chip.specs.Operations.{decodedOf, meaningOf};
+ghost use Rattle.arithmetic.specs.Arithmetic.{SUBRC};
+ghost use Rattle.chip.specs.Operations.{decodedOf, basics, meaningOf};
 ghost use Rattle.chip.specs.declared.Decoded.the-variants.{Known};
 ghost use Rattle.chip.specs.Glossary.{performOf};
-ghost use Rattle.chip.specs.Single.{outOfRange, refusedAs, singleInputs, performed, singleOf};
+ghost use Rattle.chip.specs.Single.{lacksPage, outOfRange, refusedAs, singleInputs, performed, singleOf};
 
 // The fields of one word of a sheet.
 #[repr(C)]
@@ -56,50 +58,10 @@ pub struct SingleAnswer {
     pub status: u32,
 }
 
-// An operation with a page in chapter 2. The families that chapter 1 numbers through are held with their number in the family.
+// An operation with a page in chapter 2: its family, and its place there. `Basic` are the instructions of the data movement, logical,
+// prioritize and arithmetic sections, which chapter 1 numbers from 00 and from 3C.
 pub enum Operation {
-    ZeroExtA,
-    ZeroExtB,
-    SignExtA,
-    SignExtB,
-    PassStat,
-    PassQ,
-    LoadQA,
-    LoadQB,
-    NotA,
-    NotB,
-    NegA,
-    NegB,
-    PriorA,
-    PriorB,
-    MergeAB,
-    MergeBA,
-    DecrA,
-    DecrB,
-    IncrA,
-    IncrB,
-    Decr2A,
-    Decr2B,
-    Incr2A,
-    Incr2B,
-    Decr4A,
-    Decr4B,
-    Incr4A,
-    Incr4B,
-    LdstatA,
-    LdstatB,
-    Zero,
-    Sign,
-    Or,
-    Xor,
-    And,
-    Xnor,
-    Add,
-    Addc,
-    Sub,
-    Subc,
-    Subr,
-    Subrc,
+    Basic(u32),
     Shift(u32),
     Decimal(u32),
     Divide(u32),
@@ -114,53 +76,13 @@ pub enum Decoded {
 }
 
 // One decision over the opcode numbers (document 01's form): the operation, or Opcode.
-fn decode(n: u32) -> Decoded
+pub fn decode(n: u32) -> Decoded
     ensures { λ r. ⌜ r ≡ decodedOf n ⌝ }
 {
     match n {
-        0x00 => Decoded::Known(Operation::ZeroExtA),
-        0x01 => Decoded::Known(Operation::ZeroExtB),
-        0x02 => Decoded::Known(Operation::SignExtA),
-        0x03 => Decoded::Known(Operation::SignExtB),
-        0x04 => Decoded::Known(Operation::PassStat),
-        0x05 => Decoded::Known(Operation::PassQ),
-        0x06 => Decoded::Known(Operation::LoadQA),
-        0x07 => Decoded::Known(Operation::LoadQB),
-        0x08 => Decoded::Known(Operation::NotA),
-        0x09 => Decoded::Known(Operation::NotB),
-        0x0a => Decoded::Known(Operation::NegA),
-        0x0b => Decoded::Known(Operation::NegB),
-        0x0c => Decoded::Known(Operation::PriorA),
-        0x0d => Decoded::Known(Operation::PriorB),
-        0x0e => Decoded::Known(Operation::MergeAB),
-        0x0f => Decoded::Known(Operation::MergeBA),
-        0x10 => Decoded::Known(Operation::DecrA),
-        0x11 => Decoded::Known(Operation::DecrB),
-        0x12 => Decoded::Known(Operation::IncrA),
-        0x13 => Decoded::Known(Operation::IncrB),
-        0x14 => Decoded::Known(Operation::Decr2A),
-        0x15 => Decoded::Known(Operation::Decr2B),
-        0x16 => Decoded::Known(Operation::Incr2A),
-        0x17 => Decoded::Known(Operation::Incr2B),
-        0x18 => Decoded::Known(Operation::Decr4A),
-        0x19 => Decoded::Known(Operation::Decr4B),
-        0x1a => Decoded::Known(Operation::Incr4A),
-        0x1b => Decoded::Known(Operation::Incr4B),
-        0x1c => Decoded::Known(Operation::LdstatA),
-        0x1d => Decoded::Known(Operation::LdstatB),
+        0x00..=0x1d => Decoded::Known(Operation::Basic(n)),
         0x20..=0x3b => Decoded::Known(Operation::Shift(n - 0x20)),
-        0x3c => Decoded::Known(Operation::Zero),
-        0x3d => Decoded::Known(Operation::Sign),
-        0x3e => Decoded::Known(Operation::Or),
-        0x3f => Decoded::Known(Operation::Xor),
-        0x40 => Decoded::Known(Operation::And),
-        0x41 => Decoded::Known(Operation::Xnor),
-        0x42 => Decoded::Known(Operation::Add),
-        0x43 => Decoded::Known(Operation::Addc),
-        0x44 => Decoded::Known(Operation::Sub),
-        0x45 => Decoded::Known(Operation::Subc),
-        0x46 => Decoded::Known(Operation::Subr),
-        0x47 => Decoded::Known(Operation::Subrc),
+        0x3c..=0x47 => Decoded::Known(Operation::Basic(n - 0x1e)),
         0x48..=0x4b => Decoded::Known(Operation::Decimal(n - 0x48)),
         0x4e..=0x5a => Decoded::Known(Operation::Divide(n - 0x4e)),
         0x5b..=0x5f => Decoded::Known(Operation::Multiply(n - 0x5b)),
@@ -169,54 +91,74 @@ fn decode(n: u32) -> Decoded
     }
 }
 
-// What an operation does: each arm calls its page's function, or its family's. A run has a dispatch of its own (`dispatch::operate`).
+// Whether an opcode number has no page in chapter 2 (reason Opcode): what `decode` answers, as a test.
+pub fn lacks_page(n: u32) -> bool
+    ensures { λ r. ⌜ r ≡ lacksPage n ⌝ }
+{
+    match decode(n) {
+        Decoded::Opcode => true,
+        Decoded::Known(_) => false,
+    }
+}
+
+// The basic instructions by their place: 00 to 1D, then 3C to 47.
+pub fn basic(k: u32, x: Inputs) -> Outputs
+    requires { ⌜ Sound x ⌝ }
+    ensures { λ r. ⌜ r ≡ getD basics k SUBRC x ⌝ }
+{
+    match k {
+        0x00 => movement::zero_extend(x, x.a), // 00 ZERO-EXTA
+        0x01 => movement::zero_extend(x, x.b), // 01 ZERO-EXTB
+        0x02 => movement::sign_extend(x, x.a), // 02 SIGN-EXTA
+        0x03 => movement::sign_extend(x, x.b), // 03 SIGN-EXTB
+        0x04 => movement::pass_status(x), // 04 PASS-STAT
+        0x05 => movement::pass_q(x), // 05 PASS-Q
+        0x06 => movement::load_q(x, x.a), // 06 LOADQ-A
+        0x07 => movement::load_q(x, x.b), // 07 LOADQ-B
+        0x08 => movement::not(x, x.a), // 08 NOT-A
+        0x09 => movement::not(x, x.b), // 09 NOT-B
+        0x0a => arithmetic::negate(x, x.a), // 0A NEG-A
+        0x0b => arithmetic::negate(x, x.b), // 0B NEG-B
+        0x0c => movement::prioritize(x, x.a), // 0C PRIOR-A
+        0x0d => movement::prioritize(x, x.b), // 0D PRIOR-B
+        0x0e => movement::merge(x, x.a, x.b), // 0E MERGEA-B
+        0x0f => movement::merge(x, x.b, x.a), // 0F MERGEB-A
+        0x10 => arithmetic::decrement(x, x.a, 1), // 10 DECR-A
+        0x11 => arithmetic::decrement(x, x.b, 1), // 11 DECR-B
+        0x12 => arithmetic::increment(x, x.a, 1), // 12 INCR-A
+        0x13 => arithmetic::increment(x, x.b, 1), // 13 INCR-B
+        0x14 => arithmetic::decrement(x, x.a, 2), // 14 DECR2-A
+        0x15 => arithmetic::decrement(x, x.b, 2), // 15 DECR2-B
+        0x16 => arithmetic::increment(x, x.a, 2), // 16 INCR2-A
+        0x17 => arithmetic::increment(x, x.b, 2), // 17 INCR2-B
+        0x18 => arithmetic::decrement(x, x.a, 4), // 18 DECR4-A
+        0x19 => arithmetic::decrement(x, x.b, 4), // 19 DECR4-B
+        0x1a => arithmetic::increment(x, x.a, 4), // 1A INCR4-A
+        0x1b => arithmetic::increment(x, x.b, 4), // 1B INCR4-B
+        0x1c => movement::load_status(x, x.a), // 1C LDSTAT-A
+        0x1d => movement::load_status(x, x.b), // 1D LDSTAT-B
+        0x1e => movement::zero(x), // 3C ZERO
+        0x1f => movement::sign(x), // 3D SIGN
+        0x20 => movement::or(x), // 3E OR
+        0x21 => movement::xor(x), // 3F XOR
+        0x22 => movement::and(x), // 40 AND
+        0x23 => movement::xnor(x), // 41 XNOR
+        0x24 => arithmetic::add(x), // 42 ADD
+        0x25 => arithmetic::add_with_carry(x), // 43 ADDC
+        0x26 => arithmetic::subtract(x), // 44 SUB
+        0x27 => arithmetic::subtract_with_carry(x), // 45 SUBC
+        0x28 => arithmetic::subtract_reverse(x), // 46 SUBR
+        _ => arithmetic::subtract_reverse_with_carry(x), // 47 SUBRC
+    }
+}
+
+// What an operation does: its family is asked for it by its place. A run has a dispatch of its own (`dispatch::operate`).
 fn perform(operation: Operation, x: Inputs) -> Outputs
     requires { ⌜ Sound x ⌝ }
     ensures { λ r. ⌜ r ≡ meaningOf operation x ⌝ }
 {
     match operation {
-        Operation::ZeroExtA => movement::zero_extend(x, x.a),
-        Operation::ZeroExtB => movement::zero_extend(x, x.b),
-        Operation::SignExtA => movement::sign_extend(x, x.a),
-        Operation::SignExtB => movement::sign_extend(x, x.b),
-        Operation::PassStat => movement::pass_status(x),
-        Operation::PassQ => movement::pass_q(x),
-        Operation::LoadQA => movement::load_q(x, x.a),
-        Operation::LoadQB => movement::load_q(x, x.b),
-        Operation::NotA => movement::not(x, x.a),
-        Operation::NotB => movement::not(x, x.b),
-        Operation::NegA => arithmetic::negate(x, x.a),
-        Operation::NegB => arithmetic::negate(x, x.b),
-        Operation::PriorA => movement::prioritize(x, x.a),
-        Operation::PriorB => movement::prioritize(x, x.b),
-        Operation::MergeAB => movement::merge(x, x.a, x.b),
-        Operation::MergeBA => movement::merge(x, x.b, x.a),
-        Operation::DecrA => arithmetic::decrement(x, x.a, 1),
-        Operation::DecrB => arithmetic::decrement(x, x.b, 1),
-        Operation::IncrA => arithmetic::increment(x, x.a, 1),
-        Operation::IncrB => arithmetic::increment(x, x.b, 1),
-        Operation::Decr2A => arithmetic::decrement(x, x.a, 2),
-        Operation::Decr2B => arithmetic::decrement(x, x.b, 2),
-        Operation::Incr2A => arithmetic::increment(x, x.a, 2),
-        Operation::Incr2B => arithmetic::increment(x, x.b, 2),
-        Operation::Decr4A => arithmetic::decrement(x, x.a, 4),
-        Operation::Decr4B => arithmetic::decrement(x, x.b, 4),
-        Operation::Incr4A => arithmetic::increment(x, x.a, 4),
-        Operation::Incr4B => arithmetic::increment(x, x.b, 4),
-        Operation::LdstatA => movement::load_status(x, x.a),
-        Operation::LdstatB => movement::load_status(x, x.b),
-        Operation::Zero => movement::zero(x),
-        Operation::Sign => movement::sign(x),
-        Operation::Or => movement::or(x),
-        Operation::Xor => movement::xor(x),
-        Operation::And => movement::and(x),
-        Operation::Xnor => movement::xnor(x),
-        Operation::Add => arithmetic::add(x),
-        Operation::Addc => arithmetic::add_with_carry(x),
-        Operation::Sub => arithmetic::subtract(x),
-        Operation::Subc => arithmetic::subtract_with_carry(x),
-        Operation::Subr => arithmetic::subtract_reverse(x),
-        Operation::Subrc => arithmetic::subtract_reverse_with_carry(x),
+        Operation::Basic(k) => basic(k, x),
         Operation::Shift(k) => shifts::shift(k, x),
         Operation::Decimal(k) => arithmetic::decimal(k, x),
         Operation::Divide(k) => divide::divide(k, x),
@@ -226,16 +168,24 @@ fn perform(operation: Operation, x: Inputs) -> Outputs
 }
 
 // A byte code, a position, a width or a switch that is too large. `|` tests all, without a branch for each.
-fn out_of_range(s: SingleWord) -> bool
-    ensures { λ r. ⌜ r ≡ outOfRange (s .code) (s .position) (s .width) (s .select) (s .carry) (s .link) (s .borrow) ⌝ }
+pub fn out_of_range(
+    code: u32,
+    position: u32,
+    width: u32,
+    select: u32,
+    carry: u32,
+    link: u32,
+    borrow: u32,
+) -> bool
+    ensures { λ r. ⌜ r ≡ outOfRange code position width select carry link borrow ⌝ }
 {
-    (3 < s.code)
-        | (63 < s.position)
-        | (31 < s.width)
-        | (1 < s.select)
-        | (1 < s.carry)
-        | (1 < s.link)
-        | (1 < s.borrow)
+    (3 < code)
+        | (63 < position)
+        | (31 < width)
+        | (1 < select)
+        | (1 < carry)
+        | (1 < link)
+        | (1 < borrow)
 }
 
 // A refusal repeats Q and status as they were handed in.
@@ -301,7 +251,15 @@ fn admit(operation: Operation, s: SingleWord) -> SingleAnswer
     requires { ⌜ decodedOf (s .opcode) ≡ Known operation ⌝ }
     ensures { λ r. ⌜ r ≡ singleOf s ⌝ }
 {
-    if out_of_range(s) {
+    if out_of_range(
+        s.code,
+        s.position,
+        s.width,
+        s.select,
+        s.carry,
+        s.link,
+        s.borrow,
+    ) {
         return refuse(s, Reason::Inputs);
     }
     answer(operation, s)

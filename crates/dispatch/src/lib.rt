@@ -19,43 +19,44 @@ fn unchanged(x: Inputs) -> Outputs
     }
 }
 
-// An opcode number on what stands at the chip. Families are asked for one operation by its place in them, which the compiler resolves. The
+// An opcode number on what stands at the chip. Each family is asked for one operation by its place there, which the compiler resolves. The
 // four numbers below 128 with no page have arms of their own, so that seven bits always find an entry and the jump needs no test.
+// tools/dispatch_proofs.py writes the arms from `chip::decode`, `chip::perform` and the glossary.
 pub fn operate(opcode: u32, x: Inputs) -> Outputs
     requires { ⌜ Sound x ⌝ }
     ensures { λ r. ⌜ r ≡ performOf opcode x ⌝ }
 {
     match opcode {
-        0x00 => movement::zero_extend(x, x.a), // ZERO-EXTA
-        0x01 => movement::zero_extend(x, x.b), // ZERO-EXTB
-        0x02 => movement::sign_extend(x, x.a), // SIGN-EXTA
-        0x03 => movement::sign_extend(x, x.b), // SIGN-EXTB
-        0x04 => movement::pass_status(x), // PASS-STAT
-        0x05 => movement::pass_q(x), // PASS-Q
-        0x06 => movement::load_q(x, x.a), // LOADQ-A
-        0x07 => movement::load_q(x, x.b), // LOADQ-B
-        0x08 => movement::not(x, x.a), // NOT-A
-        0x09 => movement::not(x, x.b), // NOT-B
-        0x0a => arithmetic::negate(x, x.a), // NEG-A
-        0x0b => arithmetic::negate(x, x.b), // NEG-B
-        0x0c => movement::prioritize(x, x.a), // PRIOR-A
-        0x0d => movement::prioritize(x, x.b), // PRIOR-B
-        0x0e => movement::merge(x, x.a, x.b), // MERGEA-B
-        0x0f => movement::merge(x, x.b, x.a), // MERGEB-A
-        0x10 => arithmetic::decrement(x, x.a, 1), // DECR-A
-        0x11 => arithmetic::decrement(x, x.b, 1), // DECR-B
-        0x12 => arithmetic::increment(x, x.a, 1), // INCR-A
-        0x13 => arithmetic::increment(x, x.b, 1), // INCR-B
-        0x14 => arithmetic::decrement(x, x.a, 2), // DECR2-A
-        0x15 => arithmetic::decrement(x, x.b, 2), // DECR2-B
-        0x16 => arithmetic::increment(x, x.a, 2), // INCR2-A
-        0x17 => arithmetic::increment(x, x.b, 2), // INCR2-B
-        0x18 => arithmetic::decrement(x, x.a, 4), // DECR4-A
-        0x19 => arithmetic::decrement(x, x.b, 4), // DECR4-B
-        0x1a => arithmetic::increment(x, x.a, 4), // INCR4-A
-        0x1b => arithmetic::increment(x, x.b, 4), // INCR4-B
-        0x1c => movement::load_status(x, x.a), // LDSTAT-A
-        0x1d => movement::load_status(x, x.b), // LDSTAT-B
+        0x00 => chip::basic(0x00, x), // ZERO-EXTA
+        0x01 => chip::basic(0x01, x), // ZERO-EXTB
+        0x02 => chip::basic(0x02, x), // SIGN-EXTA
+        0x03 => chip::basic(0x03, x), // SIGN-EXTB
+        0x04 => chip::basic(0x04, x), // PASS-STAT
+        0x05 => chip::basic(0x05, x), // PASS-Q
+        0x06 => chip::basic(0x06, x), // LOADQ-A
+        0x07 => chip::basic(0x07, x), // LOADQ-B
+        0x08 => chip::basic(0x08, x), // NOT-A
+        0x09 => chip::basic(0x09, x), // NOT-B
+        0x0a => chip::basic(0x0a, x), // NEG-A
+        0x0b => chip::basic(0x0b, x), // NEG-B
+        0x0c => chip::basic(0x0c, x), // PRIOR-A
+        0x0d => chip::basic(0x0d, x), // PRIOR-B
+        0x0e => chip::basic(0x0e, x), // MERGEA-B
+        0x0f => chip::basic(0x0f, x), // MERGEB-A
+        0x10 => chip::basic(0x10, x), // DECR-A
+        0x11 => chip::basic(0x11, x), // DECR-B
+        0x12 => chip::basic(0x12, x), // INCR-A
+        0x13 => chip::basic(0x13, x), // INCR-B
+        0x14 => chip::basic(0x14, x), // DECR2-A
+        0x15 => chip::basic(0x15, x), // DECR2-B
+        0x16 => chip::basic(0x16, x), // INCR2-A
+        0x17 => chip::basic(0x17, x), // INCR2-B
+        0x18 => chip::basic(0x18, x), // DECR4-A
+        0x19 => chip::basic(0x19, x), // DECR4-B
+        0x1a => chip::basic(0x1a, x), // INCR4-A
+        0x1b => chip::basic(0x1b, x), // INCR4-B
+        0x1c => chip::basic(0x1c, x), // LDSTAT-A
+        0x1d => chip::basic(0x1d, x), // LDSTAT-B
         0x1e => unchanged(x),
         0x1f => unchanged(x),
         0x20 => shifts::shift(0x00, x), // DN1-0F-A
@@ -86,18 +87,18 @@ pub fn operate(opcode: u32, x: Inputs) -> Outputs
         0x39 => shifts::shift(0x19, x), // UP1-LF-B
         0x3a => shifts::shift(0x1a, x), // UP1-LF-AQ
         0x3b => shifts::shift(0x1b, x), // UP1-LF-BQ
-        0x3c => movement::zero(x), // ZERO
-        0x3d => movement::sign(x), // SIGN
-        0x3e => movement::or(x), // OR
-        0x3f => movement::xor(x), // XOR
-        0x40 => movement::and(x), // AND
-        0x41 => movement::xnor(x), // XNOR
-        0x42 => arithmetic::add(x), // ADD
-        0x43 => arithmetic::add_with_carry(x), // ADDC
-        0x44 => arithmetic::subtract(x), // SUB
-        0x45 => arithmetic::subtract_with_carry(x), // SUBC
-        0x46 => arithmetic::subtract_reverse(x), // SUBR
-        0x47 => arithmetic::subtract_reverse_with_carry(x), // SUBRC
+        0x3c => chip::basic(0x1e, x), // ZERO
+        0x3d => chip::basic(0x1f, x), // SIGN
+        0x3e => chip::basic(0x20, x), // OR
+        0x3f => chip::basic(0x21, x), // XOR
+        0x40 => chip::basic(0x22, x), // AND
+        0x41 => chip::basic(0x23, x), // XNOR
+        0x42 => chip::basic(0x24, x), // ADD
+        0x43 => chip::basic(0x25, x), // ADDC
+        0x44 => chip::basic(0x26, x), // SUB
+        0x45 => chip::basic(0x27, x), // SUBC
+        0x46 => chip::basic(0x28, x), // SUBR
+        0x47 => chip::basic(0x29, x), // SUBRC
         0x48 => arithmetic::decimal(0x00, x), // SUM-CORR-A
         0x49 => arithmetic::decimal(0x01, x), // SUM-CORR-B
         0x4a => arithmetic::decimal(0x02, x), // DIFF-CORR-A

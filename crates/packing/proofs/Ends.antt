@@ -10,7 +10,8 @@ use Rattle.reasons.specs.Reasons.{firstOf}
 use Rattle.reasons.specs.declared.Reason.the-variants.{Opcode, Inputs, Spare, Room}
 use Rattle.reasons.specs.declared.Check.{Check}
 use Rattle.reasons.specs.declared.Check.the-variants.{Good, Bad}
-use Rattle.packing.specs.Packing.{number6, fieldsOf, spareOf, lacksPage, tooLarge, packRows, packedInto, Packed, ended, packedBy, packOf, unpackRows, blank, unpackedBy, unpackOf}
+use Rattle.chip.specs.Single.{lacksPage}
+use Rattle.packing.specs.Packing.{number6, fieldsOf, spareOf, tooLarge, packRows, packedInto, Packed, ended, packedBy, packOf, unpackRows, blank, unpackedBy, unpackOf}
 
 module _ (w : Word) (d : List ℕ) where
   pub pack-opcode : lacksPage (w .opcode) ≡ true → ended (Bad Opcode 0) d ≡ packOf w d

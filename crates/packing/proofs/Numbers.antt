@@ -1,7 +1,7 @@
--- Laws of one word: which opcodes have a page, which fields are in range, and that a word's number, its fields and its six bytes determine
+-- Laws of one word: no page past 127, which fields are in range, and that a word's number, its fields and its six bytes determine
 -- one another. Assumes nothing.
 use mathlib.Core.Path.{_≡_, refl, ap, _∙_, sym}
-use mathlib.Core.List.{List, [], _∷_, _++_, map}
+use mathlib.Core.List.{List, [], _∷_, _++_}
 use mathlib.Core.Bool.{Bool, true, false, _||_, true≢false, or-assoc, or-false}
 use Prim.Native.Nat.{ℕ, _+_, _-_, _*_, _/_, _%_, _^_, _≤_, _<_, zero-le}
 use native.Mathlib.Omega.{arith}
@@ -10,36 +10,12 @@ use native.Mathlib.Nat.{mod-eq-of-lt}
 use borrow.Author.Tests.{ltb-false, lt-ltb, le-ltb}
 use lib.Dec.{eqb, ltb}
 use lib.Pow.{split, mod-pow-add}
-use lib.ListN.{length, take, drop, List·getD-eq-default, List·getD-map}
-use Rattle.bits.proofs.Rest.{run, run-at}
+use lib.ListN.{length, take, drop, List·getD-eq-default}
 use Rattle.chip.specs.declared.Word.{Word}
-use Rattle.chip.specs.Glossary.{glossary, pageOf}
+use Rattle.chip.specs.Glossary.{glossary}
 use Rattle.chip.specs.Glossary.Page.{no-page}
-use Rattle.chip.specs.Single.{noPage, outOfRange}
-use Rattle.packing.specs.Packing.{number6, fieldsOf, spareOf, packedNumber, bytes6, lacksPage, some, registerFields, tooLarge, InRange}
-
--- ---- pages
--- the code's test of a number
-unfoldable pub pageless : ℕ → Bool
-pageless n = ltb 127 n || eqb (n / 2) 0x0f || eqb (n / 2) 0x26
-
--- all 128 entries, by computation
-one-test : take 128 (drop 0 (map noPage glossary)) ≡ run pageless 0 128
-unfolding pageless
-one-test = refl
-
--- the test and the glossary agree; past its end there is no page
-pub page-test : (n : ℕ) → pageless n ≡ lacksPage n
-unfolding lacksPage pageless
-page-test n = go (decLt n 128)
-  where
-    go : Dec (n < 128) → pageless n ≡ noPage (pageOf n)
-    go (yes l) =
-        let e : n ≡ n - 0 = omega arith in
-        ap pageless e ∙ run-at pageless (map noPage glossary) true 0 128 one-test n zero-le (omega arith) ∙ List·getD-map noPage glossary n no-page
-    go (no l) =
-        let far : length glossary ≤ n = omega arith in
-        rw (List·getD-eq-default glossary no-page far, lt-ltb 127 n (omega arith)) refl
+use Rattle.chip.specs.Single.{noPage, lacksPage, outOfRange}
+use Rattle.packing.specs.Packing.{number6, fieldsOf, spareOf, packedNumber, bytes6, some, registerFields, tooLarge, InRange}
 
 -- ---- ranges
 pub or-left : (a b : Bool) → (a || b) ≡ false → a ≡ false
@@ -52,8 +28,12 @@ or-right false b h = h
 
 -- there is no page past 127
 pub page-small : (n : ℕ) → lacksPage n ≡ false → n < 128
-unfolding pageless
-page-small n h = omega (arith, ltb-false 127 n (or-left _ _ (or-left _ _ (page-test n ∙ h))))
+unfolding lacksPage
+page-small n h = go (decLt n 128)
+  where
+    go : Dec (n < 128) → n < 128
+    go (yes l) = l
+    go (no l) = absurd (true≢false (sym (ap noPage (List·getD-eq-default glossary no-page {n = n} (omega arith))) ∙ h))
 
 -- three tests, as the code nests them
 pub some-three : (p : ℕ → Bool) (x y z : ℕ) → (p x || p y || p z) ≡ some p (x ∷ y ∷ z ∷ [])

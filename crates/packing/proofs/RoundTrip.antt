@@ -10,8 +10,9 @@ use Rattle.chip.specs.declared.Word.{Word}
 use Rattle.reasons.specs.declared.Check.the-variants.{Good}
 use Rattle.reasons.proofs.Rows.{None, good-none}
 use Rattle.reasons.proofs.Rows.None.{none, more}
+use Rattle.chip.specs.Single.{lacksPage}
 use Rattle.packing.specs.declared.Unpacked.{Unpacked}
-use Rattle.packing.specs.Packing.{number6, fieldsOf, spareOf, packedNumber, bytes6, lacksPage, tooLarge, InRange, packRows, packedInto, Packed, ended, packOf, unpackRows, unpackedBy, unpackOf}
+use Rattle.packing.specs.Packing.{number6, fieldsOf, spareOf, packedNumber, bytes6, tooLarge, InRange, packRows, packedInto, Packed, ended, packOf, unpackRows, unpackedBy, unpackOf}
 use Rattle.packing.proofs.Numbers.{in-range, fields-fit, fields-packed, packed-spare, packed-lt, packed-fields, number-bytes, bytes-number}
 use Rattle.packing.proofs.Ends.{pack-check, pack-done, unpack-check, unpack-done}
 

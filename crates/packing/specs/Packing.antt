@@ -10,8 +10,7 @@ use Rattle.reasons.specs.declared.Reason.the-variants.{Opcode, Inputs, Spare, R
 use Rattle.reasons.specs.declared.Check.{Check}
 use Rattle.reasons.specs.declared.Check.the-variants.{Good, Bad}
 use Rattle.chip.specs.declared.Word.{Word}
-use Rattle.chip.specs.Glossary.{pageOf}
-use Rattle.chip.specs.Single.{noPage, outOfRange}
+use Rattle.chip.specs.Single.{lacksPage, outOfRange}
 use Rattle.packing.specs.declared.Unpacked.{Unpacked}
 
 -- ---- the number and its fields
@@ -51,11 +50,7 @@ packedNumber w =
 abbrev pub bytes6 : ℕ → List ℕ
 bytes6 v = v / 2 ^ 40 % 256 ∷ v / 2 ^ 32 % 256 ∷ v / 2 ^ 24 % 256 ∷ v / 2 ^ 16 % 256 ∷ v / 2 ^ 8 % 256 ∷ v % 256 ∷ []
 
--- ---- conditions of the reasons
--- Opcode: above 127, or no page in chapter 2
-unfoldable pub lacksPage : ℕ → Bool
-lacksPage n = noPage (pageOf n)
-
+-- ---- conditions of the reasons; Opcode's is the chip's, `lacksPage`
 -- the fields that hold a register's number
 abbrev pub registerFields : Word → List ℕ
 registerFields w = w .a ∷ w .b ∷ w .y ∷ []

@@ -7,7 +7,7 @@ ghost use mathlib.Core.List.{_∷_, _++_};
 ghost use Prim.Native.Nat.{_+_, _*_, _%_, _^_, _<_, _≤_};
 ghost use lib.ListN.{length, drop};
 ghost use lib.Dec.{leb};
-ghost use Rattle.packing.specs.Packing.{number6, fieldsOf, packedNumber, bytes6, lacksPage, some, registerFields, tooLarge, InRange, ended, packOf, unpackOf, unpackedBy, blank};
+ghost use Rattle.packing.specs.Packing.{number6, fieldsOf, packedNumber, bytes6, some, registerFields, tooLarge, InRange, ended, packOf, unpackOf, unpackedBy, blank};
 ghost use Rattle.packing.specs.Registers.{only, sourcesOf, targetOf, namesOf, Narrow};
 
 // What unpacking answers: the word where the check is good, else all fields 0.
@@ -51,15 +51,7 @@ pub fn fields(v: u64) -> Word
     }
 }
 
-// Whether an opcode number has no page in chapter 2 (reason Opcode): 1E, 1F, 4C, 4D, and all above 7F. Here and below `|` tests all, without
-// a branch for each.
-pub fn lacks_page(n: u32) -> bool
-    ensures { λ r. ⌜ r ≡ lacksPage n ⌝ }
-{
-    (127 < n) | (n / 2 == 0x0f) | (n / 2 == 0x26)
-}
-
-// Whether a register field holds n or more.
+// Whether a register field holds n or more. `|` tests all, without a branch for each.
 pub fn names_from(n: u32, w: Word) -> bool
     ensures { λ r. ⌜ r ≡ some (leb n) (registerFields w) ⌝ }
 {
@@ -70,13 +62,15 @@ pub fn names_from(n: u32, w: Word) -> bool
 fn too_large(w: Word) -> bool
     ensures { λ r. ⌜ r ≡ tooLarge w ⌝ }
 {
-    (3 < w.code)
-        | (63 < w.position)
-        | (31 < w.width)
-        | (1 < w.select)
-        | (1 < w.carry)
-        | (1 < w.link)
-        | (1 < w.borrow)
+    chip::out_of_range(
+        w.code,
+        w.position,
+        w.width,
+        w.select,
+        w.carry,
+        w.link,
+        w.borrow,
+    )
         | names_from(64, w)
         | (1 < w.write)
 }
@@ -169,7 +163,7 @@ pub fn names(w: Word) -> u64
 pub fn pack(w: Word, d: &mut [u8]) -> Check
     ensures { λ r. ⌜ ended r (now (d .exit)) ≡ packOf w (now (d .entry)) ⌝ }
 {
-    if lacks_page(w.opcode) {
+    if chip::lacks_page(w.opcode) {
         return Check::Bad {
             reason: Reason::Opcode,
             place: 0,
@@ -213,7 +207,7 @@ pub fn unpack(s: &[u8]) -> Unpacked
         return refused(Reason::Spare);
     }
     let word = fields(number);
-    if lacks_page(word.opcode) {
+    if chip::lacks_page(word.opcode) {
         return refused(Reason::Opcode);
     }
     Unpacked {

@@ -15,7 +15,8 @@ use Rattle.sheet.specs.declared.Which.{Which}
 use Rattle.sheet.specs.declared.Which.the-variants.{Main, Handler}
 use Rattle.sheet.specs.declared.Given.{Given}
 use Rattle.sheet.specs.declared.Given.the-variants.{Absent, Number}
-use Rattle.packing.specs.Packing.{number6, fieldsOf, spareOf, lacksPage, some, registerFields, differ, InRange}
+use Rattle.chip.specs.Single.{lacksPage}
+use Rattle.packing.specs.Packing.{number6, fieldsOf, spareOf, some, registerFields, differ, InRange}
 use Rattle.packing.specs.Registers.{namesAll}
 
 -- ---- the header: four bytes as one number of 32 bits

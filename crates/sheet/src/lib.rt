@@ -187,7 +187,7 @@ fn check_number(v: u64, n: u32, k: usize) -> Check
         };
     }
     let w = packing::fields(v);
-    if packing::lacks_page(w.opcode) {
+    if chip::lacks_page(w.opcode) {
         return Check::Bad {
             reason: Reason::Opcode,
             place: k,
@@ -231,7 +231,7 @@ fn sound(v: u64, n: u32) -> bool
     ensures { λ r. ⌜ r ≡ noneHold (numberRows v n 0) ⌝ }
 {
     let w = packing::fields(v);
-    (v % 32 == 0) & !packing::lacks_page(w.opcode) & !packing::names_from(n, w)
+    (v % 32 == 0) & !chip::lacks_page(w.opcode) & !packing::names_from(n, w)
 }
 
 // Whether no word has a fault. Nearly every sheet is sound, and this loop has one branch a word.

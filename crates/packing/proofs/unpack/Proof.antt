@@ -3,7 +3,8 @@ use mathlib.Core.Path.{sym, ap, _∙_}
 use Prim.Native.Nat.{ℕ}
 use Rattle.chip.specs.declared.Word.{Word}
 use Rattle.reasons.specs.declared.Check.the-variants.{Good}
-use Rattle.packing.specs.Packing.{fieldsOf, spareOf, lacksPage, unpackedBy}
+use Rattle.chip.specs.Single.{lacksPage}
+use Rattle.packing.specs.Packing.{fieldsOf, spareOf, unpackedBy}
 use Rattle.packing.proofs.Ends.{unpack-room, unpack-spare, unpack-opcode, unpack-done}
 use borrow.Author.Needs.{needs}
 use Rattle.packing.proofs.unpack.Statement.{statement}
