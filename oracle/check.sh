@@ -31,4 +31,6 @@ same digest ../crates/digest/stdout
 same vectors ../crates/vectors/stdin
 ./interrupts.sh --same
 echo "interrupts: same as ../crates/interrupts/stdin"
+./traces.sh --same
+echo "traces: same as ../crates/traces/stdin and stdout"
 echo "== all good"

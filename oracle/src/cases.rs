@@ -170,6 +170,20 @@ fn put_opcode(bytes: &mut [u8], at: usize, opcode: u8) {
     }
 }
 
+/// The longest trace input: 4,095 words on 64 registers.
+pub fn longest_input() -> Vec<u8> {
+    let mut random = Random::new(3);
+    let all = Registers {
+        first: 0,
+        count: 64,
+    };
+    let mut input = build(&random_words(&mut random, 4095, all), 64);
+    for value in random_file(&mut random, 64) {
+        input.extend_from_slice(&value.to_be_bytes());
+    }
+    input
+}
+
 /// A trace input: a random sheet and its registers.
 pub fn random_trace_input(random: &mut Random) -> Vec<u8> {
     let count = 1 + random.below(64);

@@ -29,7 +29,7 @@ use std::path::Path;
 use std::process::ExitCode;
 
 const USAGE: &str = "usage: oracle selftest | digest | vectors | faults | trace
-       oracle trace-inputs DIR COUNT | interrupts COUNT";
+       oracle trace-inputs DIR COUNT | longest | interrupts COUNT";
 
 fn main() -> ExitCode {
     let arguments: Vec<String> = std::env::args().skip(1).collect();
@@ -41,6 +41,7 @@ fn main() -> ExitCode {
         ["faults"] => Ok(digest::try_faults()),
         ["trace"] => trace_input(),
         ["trace-inputs", folder, count] => write_inputs(folder, count),
+        ["longest"] => write_longest(),
         ["interrupts", count] => print(&cases::interrupt_text(number(count))),
         _ => {
             eprintln!("{USAGE}");
@@ -70,6 +71,11 @@ fn trace_input() -> io::Result<bool> {
 
 fn write_inputs(folder: &str, count: &str) -> io::Result<bool> {
     cases::write_trace_inputs(Path::new(folder), number(count))?;
+    Ok(true)
+}
+
+fn write_longest() -> io::Result<bool> {
+    io::stdout().write_all(&cases::longest_input())?;
     Ok(true)
 }
 

@@ -1,8 +1,9 @@
-// The trace program: reads a sheet and its registers from standard input, and writes a line for each word run and a last line. The largest valid
-// input has 24,830 bytes, so one that fills the buffer has a wrong length.
+// The trace program: reads a sheet and its registers from standard input, and writes a line for each execution and a last line. The largest
+// valid input has 24,830 bytes, so one that fills the buffer has a wrong length.
 fn main() {
     let mut input = [0u8; 24832];
     let got = io::read_full(0, &mut input);
-    let last = tracing::trace(&input[..got]);
-    io::write_all(1, &last);
+    let mut text = [0u8; tracing::MOST];
+    let n = tracing::trace(&input[..got], &mut text);
+    io::write_all(1, &text[..n]);
 }

@@ -1,33 +1,33 @@
--- The text of the lines, and that the lines show the run. Assumes nothing.
-use mathlib.Core.Path.{_≡_, refl, ap, ap₂, sym, _∙_}
-use mathlib.Core.List.{List, [], _∷_}
-use Prim.Native.Nat.{ℕ, _+_, _-_, _/_, _%_, _^_, _≤_, _<_, min}
+-- The text of the lines, one after another in a lent text. Assumes nothing.
+use mathlib.Core.Path.{_≡_, refl, ap, ap₂, sym, subst, _∙_}
+use mathlib.Core.List.{List, [], _∷_, _++_, append-assoc, append-nil}
+use Prim.Native.Nat.{ℕ, suc, _+_, _*_, _/_, _%_, _≤_, _<_}
 use native.Mathlib.Omega.{arith}
-use lib.ListN.{length, getD}
+use native.Mathlib.Numerals.{add-one}
+use lib.ListN.{length, getD, set, take, drop, length-append, length-set, drop-of-length-le}
+use lib.Seq.{take-at, drop-at, drop-drop, take-length, paste, paste-zero, paste-suc}
+use Rattle.machine.specs.declared.Shown.{Shown}
 use Rattle.machine.specs.declared.Machine.{Machine}
-use Rattle.machine.specs.Status.{asRead, loaded, Good, freshOf}
+use Rattle.machine.specs.Status.{Good}
+use Rattle.machine.specs.declared.Core.{Core}
+use Rattle.machine.specs.Core.{freshOf, taken, handedBack}
+use Rattle.machine.proofs.Handed.{taken-good}
 use Rattle.reasons.specs.declared.Reason.{Reason}
 use Rattle.reasons.specs.declared.Reason.the-variants.{Done}
 use Rattle.reasons.specs.declared.Check.{Check}
 use Rattle.reasons.specs.declared.Check.the-variants.{Good as Passed, Bad}
 use Rattle.reasons.specs.Reasons.{numberOf}
-use Rattle.chip.specs.declared.Word.{Word}
-use Rattle.chip.specs.Lists.{State, readAt, stepOf, execs}
 use Rattle.text.specs.Text.{hexOf}
-use Rattle.sheet.specs.Sheet.{wordsOf, declaredOf, wordAt, checkOf, Ready}
-use Rattle.sheet.specs.declared.Given.the-variants.{Number}
-use Rattle.sheet.proofs.Table.{ready}
-use Rattle.run.specs.declared.Traced.{Traced}
-use Rattle.run.specs.declared.RunAnswer.{RunAnswer}
-use Rattle.run.specs.Run.{entering, handedBack, wordsFrom, Ended, ended, ran, runOf, Shown, tracedOf, outputsOf}
-use Rattle.run.proofs.Laws.{each-word, execs-sane, words-length, in-parts}
-use Rattle.run.proofs.Parts.{run-is, entering-sane, traced-next}
-use Rattle.tracing.specs.declared.WordLine.{WordLine}
-use Rattle.tracing.specs.Input.{sizeOf, sheetIn, registersFrom, fileIn, inputOf}
-use Rattle.tracing.specs.Lines.{lineOf, decimalOf, lastOf, Printed, printed, printedOf, answeredBy, answerOf}
-use Rattle.tracing.proofs.Input.{good-long, good-total, good-on-file, sheet-words}
+use Rattle.chip.specs.declared.Word.{Word}
+use Rattle.chip.specs.Lists.{State, state, shownOf, stepOf}
+use Rattle.sheet.specs.Sheet.{wordsOf, wordAt, executionsOf, inputOf}
+use Rattle.sheet.proofs.Positions.{executions-length, executions-next}
+use Rattle.run.specs.Run.{entering, Stepped}
+use Rattle.tracing.specs.Input.{fileIn}
+use Rattle.tracing.specs.Lines.{lineOf, lineLength, linesOf, decimalOf, lastOf, tracedOf, textBy, textOf}
+use Rattle.tracing.specs.Fill.{Put, Traced, Written}
 
--- ---- text
+-- ---- one line
 -- the four digits of a number's low sixteen bits are its low four digits
 pub four-digits : (n : ℕ) → hexOf 4 (n % 65536) ≡ hexOf 4 n
 four-digits n =
@@ -42,115 +42,146 @@ pub last-is : (n p : List ℕ) (reason : Reason) (k place : ℕ) → k ≡ numbe
 unfolding lastOf
 last-is n p reason k place e f g = rw (f, g, e) refl
 
-pub line-is : (i y q s : List ℕ) (index : ℕ) (t : Traced) → i ≡ hexOf 4 index → y ≡ hexOf 8 (t .y) → q ≡ hexOf 8 (t .machine .q) → s ≡ hexOf 8 (t .machine .status)
+pub line-is : (i y q s : List ℕ) (index : ℕ) (x : Shown) (m : Machine) → m ≡ handedBack (x .core) → i ≡ hexOf 4 index → y ≡ hexOf 8 (x .y) → q ≡ hexOf 8 (m .q)
+    → s ≡ hexOf 8 (m .status)
     → getD i 0 0 ∷ getD i 1 0 ∷ getD i 2 0 ∷ getD i 3 0 ∷ 32
     ∷ getD y 0 0 ∷ getD y 1 0 ∷ getD y 2 0 ∷ getD y 3 0 ∷ getD y 4 0 ∷ getD y 5 0 ∷ getD y 6 0 ∷ getD y 7 0 ∷ 32
     ∷ getD q 0 0 ∷ getD q 1 0 ∷ getD q 2 0 ∷ getD q 3 0 ∷ getD q 4 0 ∷ getD q 5 0 ∷ getD q 6 0 ∷ getD q 7 0 ∷ 32
     ∷ getD s 0 0 ∷ getD s 1 0 ∷ getD s 2 0 ∷ getD s 3 0 ∷ getD s 4 0 ∷ getD s 5 0 ∷ getD s 6 0 ∷ getD s 7 0 ∷ 10 ∷ []
-    ≡ lineOf index t
+    ≡ lineOf index x
 unfolding lineOf
-line-is i y q s index t e₁ e₂ e₃ e₄ = rw (e₁, e₂, e₃, e₄) refl
+line-is i y q s index x m e e₁ e₂ e₃ e₄ = rw (e₁, e₂, e₃, e₄, e) refl
 
--- ---- the lines show the run
--- a word that was shown, and its line
-pub printed-is : (s : List ℕ) (index : ℕ) (file l : List ℕ) (m : Machine) (t : Traced) (text : List ℕ) → record { traced = t; file = l } ≡ tracedOf (wordAt s index) file m
-    → text ≡ lineOf index t → printed (record { text = text; machine = t .machine }) l ≡ printedOf s index file m
-unfolding printedOf
-printed-is s index file l m t text e f =
-    ap (λ (x : List ℕ). printed (record { text = x; machine = t .machine }) l) f
-    ∙ ap (λ (x : Shown). printed (record { text = lineOf index (x .traced); machine = x .traced .machine }) (x .file)) e
+pub line-length : (index : ℕ) (x : Shown) → length (lineOf index x) ≡ lineLength
+unfolding lineOf
+line-length index x = refl
 
--- the state after k words of a sheet, from a fresh machine
-abbrev pub after : List ℕ → List ℕ → ℕ → State
-after s file k = execs (wordsFrom s 0 k) (entering file freshOf)
+pub last-length : (reason : Reason) (place : ℕ) → length (lastOf reason place) ≡ 8
+unfolding lastOf
+last-length reason place = refl
 
-after-next : (s file : List ℕ) (k : ℕ) → after s file (k + 1) ≡ stepOf (wordAt s k) (after s file k)
-unfolding execs wordsFrom
-after-next s file k =
-    let e : 0 + k ≡ k = omega arith in
-    in-parts s 0 k 1 (entering file freshOf) ∙ ap (λ (j : ℕ). stepOf (wordAt s j) (after s file k)) e
+-- ---- a line copied byte by byte
+pub record Copying (line before : List ℕ) (at : ℕ) (text : List ℕ) (k : ℕ) : Type 0 where
+  pub upto : k ≤ length line
+  pub size : length text ≡ length before
+  pub bytes : text ≡ paste before at line k
 
--- what holds at each turn: file and machine are those after the words shown
-pub record Showing (s l₀ l : List ℕ) (m : Machine) (k : ℕ) : Type 0 where
+pub copying-start : (line before : List ℕ) (at : ℕ) → Copying line before at before 0
+copying-start line before at = record { upto = omega arith; size = refl; bytes = paste-zero before at line }
+
+module _ {line before : List ℕ} {at : ℕ} {text : List ℕ} {k : ℕ} (c : Copying line before at text k) where
+  pub copying-more : k < length line → at + length line ≤ length before → Copying line before at (set text (at + k) (getD line k 0)) (k + 1)
+  copying-more h r =
+      let e : set (paste before at line k) (at + k) (getD line k 0) ≡ paste before at line (suc k) = paste-suc before at line k 0 (omega arith) h in
+      record {
+        upto = omega arith;
+        size = length-set text (at + k) (getD line k 0) ∙ c .size;
+        bytes = ap (λ (t : List ℕ). set t (at + k) (getD line k 0)) (c .bytes) ∙ e ∙ ap (paste before at line) (sym (add-one k));
+      }
+
+  pub copying-done : length line ≤ k → Put line at before text
+  copying-done h =
+      let e : k ≡ length line = omega (arith, c .upto) in
+      c .bytes ∙ ap (paste before at line) e ∙ ap (λ (l : List ℕ). take at before ++ l ++ drop (at + length line) before) (take-length line)
+
+-- ---- a line into a text that starts with another: the text goes on with it
+pub put-on : (front line before middle after : List ℕ) (at : ℕ) → length front ≡ at → middle ≡ front ++ drop at before → Put line at middle after
+    → after ≡ front ++ line ++ drop (at + length line) before
+put-on front line before middle after at n e p =
+    p ∙ ap (λ (m : List ℕ). take at m ++ line ++ drop (at + length line) m) e
+    ∙ ap₂ (λ (a b : List ℕ). a ++ line ++ b) (take-at front (drop at before) at n)
+    (sym (drop-drop (length line) at (front ++ drop at before)) ∙ ap (drop (length line)) (drop-at front (drop at before) at n) ∙ drop-drop (length line) at before)
+
+-- an execution that was run, and its line put in its place
+pub traced-is : {w : Word} {index : ℕ} {t : State} {l : List ℕ} {x : Shown} {line before after : List ℕ} → Stepped w t l x → line ≡ lineOf index x
+    → Put line (lineLength * index) before after → Traced w index t before (state l (x .core)) after
+traced-is {w} {index} {t} {l} {x} {line} {before} {after} s e p = record {
+  state = s .state;
+  status = s .status;
+  line = subst (λ (m : List ℕ). Put m (lineLength * index) before after) (e ∙ ap (lineOf index) (s .shown)) p;
+}
+
+-- ---- what holds at each turn: the lines so far stand at the start, and with those left they are all
+pub record Filling (s l₀ before l : List ℕ) (t : State) (after : List ℕ) (i : ℕ) : Type 0 where
+  pub front : List ℕ
   pub size : length l ≡ length l₀
-  pub low : k ≤ wordsOf s
-  pub file : l ≡ after s l₀ k .file
-  pub machine : m ≡ handedBack (after s l₀ k)
+  pub room : length after ≡ length before
+  pub upto : i ≤ length (executionsOf s)
+  pub long : length front ≡ lineLength * i
+  pub bytes : after ≡ front ++ drop (lineLength * i) before
+  pub lines : linesOf 0 (executionsOf s) (entering l₀ freshOf) ≡ front ++ linesOf i (drop i (executionsOf s)) t
+  pub status : Good (t .core .status)
 
-pub showing-none : (s l₀ : List ℕ) (m : Machine) → m ≡ freshOf → Showing s l₀ l₀ m 0
-unfolding execs wordsFrom asRead loaded
-showing-none s l₀ m e = record { size = refl; low = omega arith; file = refl; machine = e }
+pub filling-start : (s l before : List ℕ) (c : Core) {m : Machine} → c ≡ taken m → m ≡ freshOf → Filling s l before l (state l c) before 0
+filling-start s l before c e f = record {
+  front = [];
+  size = refl;
+  room = refl;
+  upto = omega arith;
+  long = refl;
+  bytes = refl;
+  lines = ap (λ (x : Core). linesOf 0 (executionsOf s) (state l x)) (sym (e ∙ ap taken f));
+  status = subst (λ (x : Core). Good (x .status)) (sym e) (taken-good _);
+}
 
-module _ (s l₀ : List ℕ) (ok : checkOf s (Number (length l₀)) (Number 0) ≡ Passed) where
-  pub shown-ready : Ready s (length l₀)
-  shown-ready = ready s (length l₀) (Number 0) ok
+module _ {s l₀ before l : List ℕ} {t : State} {after : List ℕ} {i : ℕ} (f : Filling s l₀ before l t after i) where
+  pub filling-more : (l₁ : List ℕ) (u : State) (next : List ℕ) → i < length (executionsOf s) → length l₁ ≡ length l → length next ≡ length after
+      → Traced (wordAt s i) i t after u next → Filling s l₀ before l₁ u next (i + 1)
+  unfolding linesOf
+  filling-more l₁ u next h n m r =
+      let x : Shown = shownOf (wordAt s i) t in
+      let k : length (lineOf i x) ≡ lineLength = line-length i x in
+      let e : lineLength * i + length (lineOf i x) ≡ lineLength * (i + 1) = omega arith in
+      record {
+        front = f .front ++ lineOf i x;
+        size = n ∙ f .size;
+        room = m ∙ f .room;
+        upto = omega arith;
+        long = length-append (f .front) (lineOf i x) ∙ omega (arith, f .long);
+        bytes =
+            put-on (f .front) (lineOf i x) before after next (lineLength * i) (f .long) (f .bytes) (r .line)
+            ∙ ap (λ (j : ℕ). (f .front ++ lineOf i x) ++ drop j before) e;
+        lines =
+            f .lines
+            ∙ ap (λ (ws : List Word). f .front ++ linesOf i ws t) (executions-next s i h)
+            ∙ ap (λ (v : State). f .front ++ (lineOf i x ++ linesOf (i + 1) (drop (i + 1) (executionsOf s)) v)) (sym (r .state))
+            ∙ sym (append-assoc (f .front) (lineOf i x) (linesOf (i + 1) (drop (i + 1) (executionsOf s)) u));
+        status = r .status;
+      }
 
-  module _ (small : (r : ℕ) → readAt l₀ r < 2 ^ 32) (l : List ℕ) (m : Machine) (k : ℕ) (r : Showing s l₀ l m k) where
-    good-after : Good (after s l₀ k .status)
-    good-after =
-        execs-sane (declaredOf s) (wordsFrom s 0 k) (entering l₀ freshOf)
-        (each-word (declaredOf s) s 0 k (λ j lo hi. shown-ready .word j (omega (arith, r .low)))) (entering-sane l₀ freshOf small (omega arith)) .status
+  pub filling-done : length (executionsOf s) ≤ i → lineLength * i ≤ length before → Written (linesOf 0 (executionsOf s) (entering l₀ freshOf)) before (lineLength * i) after
+  unfolding linesOf
+  filling-done h r =
+      let e : linesOf 0 (executionsOf s) (entering l₀ freshOf) ≡ f .front
+      = f .lines ∙ ap (λ (ws : List Word). f .front ++ linesOf i ws t) (drop-of-length-le (executionsOf s) h) ∙ append-nil (f .front) in
+      record {
+        size = sym (ap length e ∙ f .long);
+        fits = r;
+        bytes = f .bytes ∙ ap (λ (l : List ℕ). l ++ drop (lineLength * i) before) (sym e);
+      }
 
-    -- Each line shows the word that the run executes next, on what the run left so far.
-    pub showing-more : (l₁ : List ℕ) (p : WordLine) → k < wordsOf s → length l₁ ≡ length l → printed p l₁ ≡ printedOf s k l m → Showing s l₀ l₁ (p .machine) (k + 1)
-    unfolding printedOf
-    showing-more l₁ p h n e =
-        let w : Word = wordAt s k in
-        let t : State = after s l₀ k in
-        let x : tracedOf w l m ≡ record { traced = record { y = outputsOf w t .y; machine = handedBack (stepOf w t) }; file = stepOf w t .file }
-        = ap₂ (tracedOf w) (r .file) (r .machine) ∙ traced-next w t good-after in
-        let f : p .machine ≡ handedBack (stepOf w t) = ap (λ (z : Printed). z .line .machine) e ∙ ap (λ (z : Shown). z .traced .machine) x in
-        let g : l₁ ≡ stepOf w t .file = ap (λ (z : Printed). z .file) e ∙ ap (λ (z : Shown). z .file) x in
-        record {
-          size = n ∙ r .size;
-          low = omega arith;
-          file = g ∙ ap (λ (u : State). u .file) (sym (after-next s l₀ k));
-          machine = f ∙ ap handedBack (sym (after-next s l₀ k));
-        }
+-- ---- the last line after them, and by itself
+pub last-after : (lines line before middle after : List ℕ) (n : ℕ) → Written lines before n middle → n + length line ≤ length before → Put line n middle after
+    → Written (lines ++ line) before (n + length line) after
+last-after lines line before middle after n w r p = record {
+  size = ap (λ (k : ℕ). k + length line) (w .size) ∙ sym (length-append lines line);
+  fits = r;
+  bytes = put-on lines line before middle after n (sym (w .size)) (w .bytes) p;
+}
 
-    -- The lines done, reason, place, Q, status and registers are those of the whole run.
-    pub showing-done : k ≡ wordsOf s → ended (record { reason = Done; place = k; machine = m }) l ≡ runOf s l₀ freshOf 0 (wordsOf s)
-    showing-done e =
-        let n : min (wordsOf s) (wordsOf s - 0) ≡ k = omega arith in
-        let c : k ≡ length (wordsFrom s 0 k) = sym (words-length s 0 k) in
-        (λ i. ended (record { reason = Done; place = c i; machine = r .machine i }) (r .file i))
-        ∙ ap (λ (j : ℕ). ran (wordsFrom s 0 j) (entering l₀ freshOf)) (sym n)
-        ∙ sym (run-is s l₀ freshOf 0 (wordsOf s) ok)
+pub last-alone : (line before after : List ℕ) → length line ≤ length before → Put line 0 before after → Written line before (length line) after
+last-alone line before after r p =
+    let z : 0 + length line ≡ length line = omega arith in
+    record { size = refl; fits = r; bytes = p ∙ ap (λ (k : ℕ). line ++ drop k before) z }
 
 -- ---- the whole
-pub answer-refused : (x : List ℕ) (m : Machine) (r : Reason) (p : ℕ) → m ≡ freshOf → inputOf x ≡ Bad r p
-    → record { reason = r; place = p; machine = m } ≡ answerOf x
-unfolding answerOf
-answer-refused x m r p f e = ap (λ (z : Machine). record { reason = r; place = p; machine = z }) f ∙ sym (ap (λ (c : Check). answeredBy c x) e)
+pub text-refused : (x : List ℕ) (reason : Reason) (place : ℕ) → inputOf x ≡ Bad reason place → lastOf reason place ≡ textOf x
+unfolding textOf
+text-refused x reason place e = sym (ap (λ (c : Check). textBy c x) e)
 
--- the part that is lent passes with a file of as many registers as are declared
-pub on-file : (x s file : List ℕ) → inputOf x ≡ Passed → s ≡ sheetIn x → length file ≡ declaredOf x → checkOf s (Number (length file)) (Number 0) ≡ Passed
-on-file x s file e es n = ap₂ (λ (y : List ℕ) (k : ℕ). checkOf y (Number k) (Number 0)) es n ∙ good-on-file x e
+pub text-done : (x : List ℕ) → inputOf x ≡ Passed → tracedOf x ++ lastOf Done (length (executionsOf x)) ≡ textOf x
+unfolding textOf
+text-done x e = sym (ap (λ (c : Check). textBy c x) e)
 
--- the registers that are loaded
-pub loaded-file : (x : List ℕ) (n : ℕ) (l₀ l : List ℕ) → n ≡ sizeOf x → length l₀ ≡ declaredOf x → l ≡ registersFrom x n 0 (length l₀) → l ≡ fileIn x
-loaded-file x n l₀ l en el e = e ∙ ap₂ (λ (i k : ℕ). registersFrom x i 0 k) en el
-
-pub answer-done : (x : List ℕ) (a : RunAnswer) (s file l : List ℕ) → inputOf x ≡ Passed → s ≡ sheetIn x → file ≡ fileIn x
-    → ended a l ≡ runOf s file freshOf 0 (wordsOf s) → a ≡ answerOf x
-unfolding answerOf
-answer-done x a s file l e es ef h =
-    let n : wordsOf s ≡ wordsOf x = ap wordsOf es ∙ sheet-words x (good-long x e) (good-total x e) in
-    ap (λ (z : Ended). z .answer) h
-    ∙ ap (λ (j : ℕ). runOf s file freshOf 0 j .answer) n
-    ∙ ap₂ (λ (y z : List ℕ). runOf y z freshOf 0 (wordsOf x) .answer) es ef
-    ∙ sym (ap (λ (c : Check). answeredBy c x) e)
-
--- Two answers that meet the promise of a line, of the last line, of a word shown, or of the trace are one.
-pub one-line : (index : ℕ) (t : Traced) (x y : List ℕ) → x ≡ lineOf index t → y ≡ lineOf index t → x ≡ y
-one-line index t x y e f = e ∙ sym f
-
-pub one-last-line : (reason : Reason) (place : ℕ) (x y : List ℕ) → x ≡ lastOf reason place → y ≡ lastOf reason place → x ≡ y
-one-last-line reason place x y e f = e ∙ sym f
-
-pub one-word-line : (s : List ℕ) (index : ℕ) (file : List ℕ) (m : Machine) (x y : Printed) → x ≡ printedOf s index file m → y ≡ printedOf s index file m → x ≡ y
-one-word-line s index file m x y e f = e ∙ sym f
-
-pub one-trace : (input x y : List ℕ) → x ≡ lastOf (answerOf input .reason) (answerOf input .place)
-    → y ≡ lastOf (answerOf input .reason) (answerOf input .place) → x ≡ y
-one-trace input x y e f = e ∙ sym f
+pub written-as : {text other before after : List ℕ} {n : ℕ} → text ≡ other → Written text before n after → Written other before n after
+written-as {text} {other} {before} {after} {n} e w = subst (λ (t : List ℕ). Written t before n after) e w

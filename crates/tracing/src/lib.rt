@@ -135,7 +135,11 @@ fn put(line: &[u8], text: &mut [u8], at: usize)
     requires { ⌜ at + length (now line) ≤ length (now text) ⌝ }
     ensures { λ _. ⌜ Put (now (line .entry)) at (now (text .entry)) (now (text .exit)) ⌝ }
 {
-    bytes::copy(line, &mut text[at..]);
+    let mut k: usize = 0;
+    while k < line.len() {
+        text[at + k] = line[k];
+        k += 1;
+    }
 }
 
 // Execution `index` of a sheet, run, and its line in its place. The sheet was checked once: this checks nothing again.

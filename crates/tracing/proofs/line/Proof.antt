@@ -4,139 +4,48 @@ use borrow.Author.Needs.{needs}
 use Rattle.tracing.proofs.line.Statement.{statement}
 use Rattle.tracing.proofs.line.Tie as tie
 
-four-requires : tie.Need-four-requires
-four-requires c κs = search needs
-
-hex8-requires : tie.Need-hex8-requires
-hex8-requires c κs = search needs
-
-hex8-requires-2 : tie.Need-hex8-requires-2
-hex8-requires-2 c κs = search needs
-
-hex8-requires-3 : tie.Need-hex8-requires-3
-hex8-requires-3 c κs = search needs
-
-array-read-t11 : tie.Need-array-read-t11
-array-read-t11 c = search needs
-
-array-read-t14 : tie.Need-array-read-t14
-array-read-t14 c = search needs
-
-array-read-t17 : tie.Need-array-read-t17
-array-read-t17 c = search needs
-
-array-read-t20 : tie.Need-array-read-t20
-array-read-t20 c = search needs
-
-array-read-t23 : tie.Need-array-read-t23
-array-read-t23 c = search needs
-
-array-read-t26 : tie.Need-array-read-t26
-array-read-t26 c = search needs
-
-array-read-t29 : tie.Need-array-read-t29
-array-read-t29 c = search needs
-
-array-read-t32 : tie.Need-array-read-t32
-array-read-t32 c = search needs
-
-array-read-t35 : tie.Need-array-read-t35
-array-read-t35 c = search needs
-
-array-read-t38 : tie.Need-array-read-t38
-array-read-t38 c = search needs
-
-array-read-t41 : tie.Need-array-read-t41
-array-read-t41 c = search needs
-
-array-read-t44 : tie.Need-array-read-t44
-array-read-t44 c = search needs
-
-array-read-t47 : tie.Need-array-read-t47
-array-read-t47 c = search needs
-
-array-read-t50 : tie.Need-array-read-t50
-array-read-t50 c = search needs
-
-array-read-t53 : tie.Need-array-read-t53
-array-read-t53 c = search needs
-
-array-read-t56 : tie.Need-array-read-t56
-array-read-t56 c = search needs
-
-array-read-t59 : tie.Need-array-read-t59
-array-read-t59 c = search needs
-
-array-read-t62 : tie.Need-array-read-t62
-array-read-t62 c = search needs
-
-array-read-t65 : tie.Need-array-read-t65
-array-read-t65 c = search needs
-
-array-read-t68 : tie.Need-array-read-t68
-array-read-t68 c = search needs
-
-array-read-t71 : tie.Need-array-read-t71
-array-read-t71 c = search needs
-
-array-read-t74 : tie.Need-array-read-t74
-array-read-t74 c = search needs
-
-array-read-t77 : tie.Need-array-read-t77
-array-read-t77 c = search needs
-
-array-read-t80 : tie.Need-array-read-t80
-array-read-t80 c = search needs
-
-array-read-t83 : tie.Need-array-read-t83
-array-read-t83 c = search needs
-
-array-read-t86 : tie.Need-array-read-t86
-array-read-t86 c = search needs
-
-array-read-t89 : tie.Need-array-read-t89
-array-read-t89 c = search needs
-
-array-read-t92 : tie.Need-array-read-t92
-array-read-t92 c = search needs
-
 returns : tie.Need-returns
-returns c = let a = c .before .before .before .before .args in line-is (c .before .before .before .four .result) (c .before .before .hex8 .result) (c .before .hex82 .result) (c .hex83 .result) (a .index) (a .traced) (c .before .before .before .four .ensures) (c .before .before .hex8 .ensures) (c .before .hex82 .ensures) (c .hex83 .ensures)
+returns c =
+    let m = c .before .before .before .before in
+    let a = m .before .before .args in
+    line-is (c .before .before .before .four .result) (c .before .before .hex8 .result) (c .before .hex82 .result) (c .hex83 .result) (a .index) (a .shown) _
+    (m .leave .ensures) (c .before .before .before .four .ensures) (c .before .before .hex8 .ensures) (c .before .hex82 .ensures) (c .hex83 .ensures)
 
 pub line-spec : {M : Type 1} → statement M
 line-spec =
     tie.close
     (tie.spec
-    four-requires
-    hex8-requires
-    hex8-requires-2
-    hex8-requires-3
-    array-read-t11
-    array-read-t14
-    array-read-t17
-    array-read-t20
-    array-read-t23
-    array-read-t26
-    array-read-t29
-    array-read-t32
-    array-read-t35
-    array-read-t38
-    array-read-t41
-    array-read-t44
-    array-read-t47
-    array-read-t50
-    array-read-t53
-    array-read-t56
-    array-read-t59
-    array-read-t62
-    array-read-t65
-    array-read-t68
-    array-read-t71
-    array-read-t74
-    array-read-t77
-    array-read-t80
-    array-read-t83
-    array-read-t86
-    array-read-t89
-    array-read-t92
+    (search needs)
+    (search needs)
+    (search needs)
+    (search needs)
+    (search needs)
+    (search needs)
+    (search needs)
+    (search needs)
+    (search needs)
+    (search needs)
+    (search needs)
+    (search needs)
+    (search needs)
+    (search needs)
+    (search needs)
+    (search needs)
+    (search needs)
+    (search needs)
+    (search needs)
+    (search needs)
+    (search needs)
+    (search needs)
+    (search needs)
+    (search needs)
+    (search needs)
+    (search needs)
+    (search needs)
+    (search needs)
+    (search needs)
+    (search needs)
+    (search needs)
+    (search needs)
+    (search needs)
     returns)
