@@ -1,13 +1,16 @@
 -- The input taken apart: its counts, and its registers one after another. Assumes nothing.
-use mathlib.Core.Path.{_≡_, refl, ap, sym, _∙_}
+use mathlib.Core.Path.{_≡_, refl, ap, ap₂, sym, subst, _∙_}
 use mathlib.Core.List.{List, [], _∷_}
 use Prim.Native.Nat.{ℕ, zero, suc, _+_, _*_, _-_, _≤_, _<_}
 use native.Mathlib.Omega.{arith}
 use native.Mathlib.Decide.{ℕ-discrete}
 use lib.ListN.{length, getD, set, take, length-take}
 use lib.Seq.{getD-set-same, getD-set-other, ext-getD}
-use Rattle.sheet.specs.Sheet.{wordsOf, declaredOf}
-use Rattle.tracing.specs.Input.{sizeOf, registerAt, registersFrom}
+use Rattle.reasons.specs.declared.Check.the-variants.{Good as Passed}
+use Rattle.sheet.specs.declared.Given.the-variants.{Absent}
+use Rattle.sheet.specs.Sheet.{wordsOf, declaredOf, inputOf, Ready}
+use Rattle.sheet.proofs.Table.{ready-alone, input-length}
+use Rattle.tracing.specs.Input.{sizeOf, registerAt, registersFrom, fileIn}
 
 pub words-few : (x : List ℕ) → wordsOf x < 4096
 unfolding wordsOf
@@ -16,6 +19,17 @@ words-few x = omega arith
 pub size-is : (x : List ℕ) (n : ℕ) → n ≡ wordsOf x → 4 + 6 * n ≡ sizeOf x
 unfolding sizeOf
 size-is x n e = ap (λ (k : ℕ). 4 + 6 * k) e
+
+-- ---- an input that was checked
+module _ (x : List ℕ) (e : inputOf x ≡ Passed) where
+  pub input-ready : (n : ℕ) → n ≡ declaredOf x → Ready x n
+  input-ready n f = subst (Ready x) (sym f) (ready-alone 4 x Absent e)
+
+  pub input-room : (at n : ℕ) → at ≡ sizeOf x → n ≡ declaredOf x → at + 4 * n ≤ length x
+  input-room at n f g = omega (arith, size-is x (wordsOf x) refl, input-length x e)
+
+  pub input-file : (at n : ℕ) {file : List ℕ} → at ≡ sizeOf x → n ≡ declaredOf x → file ≡ registersFrom x at 0 n → file ≡ fileIn x
+  input-file at n f g h = h ∙ ap₂ (λ (i k : ℕ). registersFrom x i 0 k) f g
 
 -- as many of 64 as are declared
 pub room : (n m : ℕ) (l : List ℕ) → n ≡ m → length l ≡ 64 → m ≤ 64 → length (take (n - 0) l) ≡ m

@@ -24,8 +24,8 @@ use Rattle.sheet.specs.Sheet.{wordsOf, wordAt, executionsOf, inputOf}
 use Rattle.sheet.proofs.Positions.{executions-length, executions-next}
 use Rattle.run.specs.Run.{entering, Stepped}
 use Rattle.tracing.specs.Input.{fileIn}
-use Rattle.tracing.specs.Lines.{lineOf, lineLength, linesOf, decimalOf, lastOf, tracedOf, textBy, textOf}
-use Rattle.tracing.specs.Fill.{Put, Traced, Written}
+use Rattle.tracing.specs.Lines.{lineOf, lineLength, linesOf, decimalOf, lastOf, lastLength, tracedOf, textBy, textOf}
+use Rattle.tracing.specs.Fill.{Put, Traced, Filled, Written}
 
 -- ---- one line
 -- the four digits of a number's low sixteen bits are its low four digits
@@ -56,7 +56,7 @@ pub line-length : (index : ℕ) (x : Shown) → length (lineOf index x) ≡ line
 unfolding lineOf
 line-length index x = refl
 
-pub last-length : (reason : Reason) (place : ℕ) → length (lastOf reason place) ≡ 8
+pub last-length : (reason : Reason) (place : ℕ) → length (lastOf reason place) ≡ lastLength
 unfolding lastOf
 last-length reason place = refl
 
@@ -82,15 +82,18 @@ module _ {line before : List ℕ} {at : ℕ} {text : List ℕ} {k : ℕ} (c : Co
   pub copying-done : length line ≤ k → Put line at before text
   copying-done h =
       let e : k ≡ length line = omega (arith, c .upto) in
-      c .bytes ∙ ap (paste before at line) e ∙ ap (λ (l : List ℕ). take at before ++ l ++ drop (at + length line) before) (take-length line)
+      record { bytes = c .bytes ∙ ap (paste before at line) e ∙ ap (λ (l : List ℕ). take at before ++ l ++ drop (at + length line) before) (take-length line) }
 
 -- ---- a line into a text that starts with another: the text goes on with it
 pub put-on : (front line before middle after : List ℕ) (at : ℕ) → length front ≡ at → middle ≡ front ++ drop at before → Put line at middle after
     → after ≡ front ++ line ++ drop (at + length line) before
 put-on front line before middle after at n e p =
-    p ∙ ap (λ (m : List ℕ). take at m ++ line ++ drop (at + length line) m) e
+    p .bytes ∙ ap (λ (m : List ℕ). take at m ++ line ++ drop (at + length line) m) e
     ∙ ap₂ (λ (a b : List ℕ). a ++ line ++ b) (take-at front (drop at before) at n)
     (sym (drop-drop (length line) at (front ++ drop at before)) ∙ ap (drop (length line)) (drop-at front (drop at before) at n) ∙ drop-drop (length line) at before)
+
+pub put-as : {line other : List ℕ} {at : ℕ} {before after : List ℕ} → line ≡ other → Put line at before after → Put other at before after
+put-as {line} {other} {at} {before} {after} e p = subst (λ (m : List ℕ). Put m at before after) e p
 
 -- an execution that was run, and its line put in its place
 pub traced-is : {w : Word} {index : ℕ} {t : State} {l : List ℕ} {x : Shown} {line before after : List ℕ} → Stepped w t l x → line ≡ lineOf index x
@@ -98,7 +101,7 @@ pub traced-is : {w : Word} {index : ℕ} {t : State} {l : List ℕ} {x : Shown} 
 traced-is {w} {index} {t} {l} {x} {line} {before} {after} s e p = record {
   state = s .state;
   status = s .status;
-  line = subst (λ (m : List ℕ). Put m (lineLength * index) before after) (e ∙ ap (lineOf index) (s .shown)) p;
+  line = put-as (e ∙ ap (lineOf index) (s .shown)) p;
 }
 
 -- ---- what holds at each turn: the lines so far stand at the start, and with those left they are all
@@ -113,7 +116,7 @@ pub record Filling (s l₀ before l : List ℕ) (t : State) (after : List ℕ) (
   pub status : Good (t .core .status)
 
 pub filling-start : (s l before : List ℕ) (c : Core) {m : Machine} → c ≡ taken m → m ≡ freshOf → Filling s l before l (state l c) before 0
-filling-start s l before c e f = record {
+filling-start s l before c {m} e f = record {
   front = [];
   size = refl;
   room = refl;
@@ -121,7 +124,7 @@ filling-start s l before c e f = record {
   long = refl;
   bytes = refl;
   lines = ap (λ (x : Core). linesOf 0 (executionsOf s) (state l x)) (sym (e ∙ ap taken f));
-  status = subst (λ (x : Core). Good (x .status)) (sym e) (taken-good _);
+  status = subst (λ (x : Core). Good (x .status)) (sym e) (taken-good m);
 }
 
 module _ {s l₀ before l : List ℕ} {t : State} {after : List ℕ} {i : ℕ} (f : Filling s l₀ before l t after i) where
@@ -160,28 +163,43 @@ module _ {s l₀ before l : List ℕ} {t : State} {after : List ℕ} {i : ℕ} (
         bytes = f .bytes ∙ ap (λ (l : List ℕ). l ++ drop (lineLength * i) before) (sym e);
       }
 
+-- how many bytes the lines of a sheet take
+lines-length : (i : ℕ) (ws : List Word) (t : State) → length (linesOf i ws t) ≡ lineLength * length ws
+unfolding linesOf
+lines-length i [] t = refl
+lines-length i (w ∷ ws) t =
+    length-append (lineOf i (shownOf w t)) (linesOf (i + 1) ws (stepOf w t)) ∙ omega (arith, line-length i (shownOf w t), lines-length (i + 1) ws (stepOf w t))
+
+pub filled-length : (s file : List ℕ) {before after : List ℕ} {n : ℕ} → Filled s file before n after → n ≡ lineLength * wordsOf s
+filled-length s file w = w .size ∙ lines-length 0 (executionsOf s) (entering file freshOf) ∙ ap (λ (k : ℕ). lineLength * k) (executions-length s)
+
 -- ---- the last line after them, and by itself
-pub last-after : (lines line before middle after : List ℕ) (n : ℕ) → Written lines before n middle → n + length line ≤ length before → Put line n middle after
+last-after : {lines line before middle after : List ℕ} {n : ℕ} → Written lines before n middle → n + length line ≤ length before → Put line n middle after
     → Written (lines ++ line) before (n + length line) after
-last-after lines line before middle after n w r p = record {
+last-after {lines} {line} {before} {middle} {after} {n} w r p = record {
   size = ap (λ (k : ℕ). k + length line) (w .size) ∙ sym (length-append lines line);
   fits = r;
   bytes = put-on lines line before middle after n (sym (w .size)) (w .bytes) p;
 }
 
-pub last-alone : (line before after : List ℕ) → length line ≤ length before → Put line 0 before after → Written line before (length line) after
-last-alone line before after r p =
-    let z : 0 + length line ≡ length line = omega arith in
-    record { size = refl; fits = r; bytes = p ∙ ap (λ (k : ℕ). line ++ drop k before) z }
+last-alone : {line before after : List ℕ} → length line ≤ length before → Put line 0 before after → Written line before (0 + length line) after
+last-alone {line} r p = let z : 0 + length line ≡ length line = omega arith in record { size = z; fits = omega arith; bytes = p .bytes }
+
+written-as : {text other before after : List ℕ} {n m : ℕ} → text ≡ other → m ≡ n → Written text before n after → Written other before m after
+written-as {text} {other} {before} {after} {n} {m} e f w =
+    subst (λ (t : List ℕ). Written t before m after) e (subst (λ (k : ℕ). Written text before k after) (sym f) w)
 
 -- ---- the whole
-pub text-refused : (x : List ℕ) (reason : Reason) (place : ℕ) → inputOf x ≡ Bad reason place → lastOf reason place ≡ textOf x
+pub text-refused : (x : List ℕ) {before after : List ℕ} {reason : Reason} {place r : ℕ} → inputOf x ≡ Bad reason place → lastLength ≤ length before
+    → Put (lastOf reason place) 0 before after → r ≡ 0 + length (lastOf reason place) → Written (textOf x) before r after
 unfolding textOf
-text-refused x reason place e = sym (ap (λ (c : Check). textBy c x) e)
+text-refused x {reason = reason} {place = place} e h p f =
+    written-as (sym (ap (λ (c : Check). textBy c x) e)) f (last-alone (omega (arith, last-length reason place)) p)
 
-pub text-done : (x : List ℕ) → inputOf x ≡ Passed → tracedOf x ++ lastOf Done (length (executionsOf x)) ≡ textOf x
-unfolding textOf
-text-done x e = sym (ap (λ (c : Check). textBy c x) e)
-
-pub written-as : {text other before after : List ℕ} {n : ℕ} → text ≡ other → Written text before n after → Written other before n after
-written-as {text} {other} {before} {after} {n} e w = subst (λ (t : List ℕ). Written t before n after) e w
+pub text-done : (x file : List ℕ) {before middle after : List ℕ} {place n r : ℕ} → inputOf x ≡ Passed → file ≡ fileIn x → place ≡ length (executionsOf x) → Filled x file before n middle
+    → n + lastLength ≤ length before → Put (lastOf Done place) n middle after → r ≡ n + length (lastOf Done place) → Written (textOf x) before r after
+unfolding textOf tracedOf
+text-done x file {place = place} e g k w h p f = written-as (lines ∙ sym (ap (λ (c : Check). textBy c x) e)) f (last-after w (omega (arith, last-length Done place)) p)
+  where
+    lines : linesOf 0 (executionsOf x) (entering file freshOf) ++ lastOf Done place ≡ textBy Passed x
+    lines = rw (g, k) refl

@@ -12,8 +12,8 @@ use Rattle.run.specs.Run.{entering}
 use Rattle.tracing.specs.Lines.{lineOf, lineLength, linesOf}
 
 -- a line stands at a place, all else is as it was
-abbrev pub Put : List ℕ → ℕ → List ℕ → List ℕ → Type 0
-Put line at before after = after ≡ take at before ++ line ++ drop (at + length line) before
+pub record Put (line : List ℕ) (at : ℕ) (before after : List ℕ) : Type 0 where
+  pub bytes : after ≡ take at before ++ line ++ drop (at + length line) before
 
 -- a text stands at the start; its length is n, and the bytes past it are as they were
 pub record Written (text before : List ℕ) (n : ℕ) (after : List ℕ) : Type 0 where

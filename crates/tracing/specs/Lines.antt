@@ -49,6 +49,10 @@ decimalOf n = digitOf (n / 10 % 10) ∷ digitOf (n % 10) ∷ []
 unfoldable pub lastOf : Reason → ℕ → List ℕ
 lastOf reason place = decimalOf (numberOf reason) ++ space ∷ hexOf 4 place ++ newline ∷ []
 
+-- its bytes
+abbrev pub lastLength : ℕ
+lastLength = 8
+
 -- ---- the whole text: a refused input runs nothing; else a fresh machine runs the sheet from its first execution to its last
 unfoldable pub tracedOf : List ℕ → List ℕ
 tracedOf x = linesOf 0 (executionsOf x) (entering (fileIn x) freshOf)

@@ -142,6 +142,16 @@ fn put(line: &[u8], text: &mut [u8], at: usize)
     }
 }
 
+// The last line into a text at a place; where the text ends.
+fn put_last(text: &mut [u8], at: usize, reason: Reason, place: usize) -> usize
+    requires { ⌜ at + 8 ≤ length (now text) ⌝ }
+    ensures { λ r. ⌜ Put (lastOf reason place) at (now (text .entry)) (now (text .exit)) × (r ≡ at + length (lastOf reason place)) ⌝ }
+{
+    let line = last_line(reason, place);
+    put(&line, text, at);
+    at + LAST
+}
+
 // Execution `index` of a sheet, run, and its line in its place. The sheet was checked once: this checks nothing again.
 fn trace_word(sheet: &[u8], index: usize, file: &mut [u32], core: Core, text: &mut [u8]) -> Core
     requires { ⌜ Ready (now sheet) (length (now file)) × (index < wordsOf (now sheet)) × Good (core .status) ⌝ }
@@ -177,9 +187,7 @@ fn trace_run(input: &[u8], file: &mut [u32], text: &mut [u8]) -> usize
 {
     load(input, sheet_size(input), file);
     let at = fill(input, file, text);
-    let line = last_line(Reason::Done, sheet::executions(input));
-    put(&line, text, at);
-    at + LAST
+    put_last(text, at, Reason::Done, sheet::executions(input))
 }
 
 // The trace of an input: all of its text at the start of a lent buffer, which has room for the longest; how many bytes it has. Bytes past them
@@ -190,9 +198,7 @@ pub fn trace(input: &[u8], text: &mut [u8]) -> usize
 {
     let check = sheet::check_input(input);
     if let Check::Bad { reason, place } = check {
-        let line = last_line(reason, place);
-        put(&line, text, 0);
-        return LAST;
+        return put_last(text, 0, reason, place);
     }
     let registers = sheet::declared(input);
     let mut file = [0u32; 64];

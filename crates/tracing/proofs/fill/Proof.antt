@@ -39,19 +39,22 @@ trace-word-requires c κs =
 loop-again : tie.Need-loop-again Inv-loop μ-loop
 loop-again c =
     let z = c .before .before .before .before .before .before .before .before .before .before .before .before .before .before .before in
-    filling-more (c .before .before .before .before .before .before .before .before .loop .inv) _ _ _ (omega (arith, c .before .before .before .before .before .before .before .loop-test .taken, c .before .before .before .before .before .before .before .before .before .before .before .executions .ensures)) (c .before .before .before .before .trace-word .kept .1 .0) (c .before .before .before .before .trace-word .kept .1 .1 .0) (c .before .before .before .before .trace-word .ensures)
+    filling-more (c .before .before .before .before .before .before .before .before .loop .inv) _ _ _ (omega (arith, c .before .before .before .before .before .before .before .loop-test .taken, c .before .before .before .before .before .before .before .before .before .before .before .executions .ensures)) (c .before .before .before .before .trace-word .kept .1 .1 .0) (c .before .before .before .before .trace-word .kept .1 .1 .1 .1 .0) (c .before .before .before .before .trace-word .ensures)
 
 mul-result : tie.Need-mul-result Inv-loop μ-loop
-mul-result c = ?
+mul-result c = omega (arith, c .before .loop .inv .upto, executions-length (now (c .before .before .before .before .before .before .before .before .args .sheet)), c .before .before .before .before .before .before .before .before .pre .1)
 
 same-length : tie.Need-same-length Inv-loop μ-loop
-same-length c = ?
+same-length c = c .before .loop .inv .size
 
 same-length-2 : tie.Need-same-length-2 Inv-loop μ-loop
-same-length-2 c = ?
+same-length-2 c = c .before .loop .inv .room
 
 returns : tie.Need-returns Inv-loop μ-loop
-returns c = ?
+returns c =
+    let z = c .before .before .before .before .before .before .before .before in
+    filling-done (c .before .loop .inv) (omega (arith, c .loop-test .left, c .before .before .before .before .executions .ensures))
+    (omega (arith, c .before .loop .inv .upto, executions-length (now (z .args .sheet)), z .pre .1))
 
 pub fill-spec : {M : Type 1} → statement M
 fill-spec =

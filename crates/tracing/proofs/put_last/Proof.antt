@@ -1,0 +1,33 @@
+-- The last line has eight bytes. Assumes nothing.
+use mathlib.Core.Path.{_≡_, sym, ap, _∙_}
+use Prim.Native.Nat.{ℕ, _+_}
+use native.Mathlib.Omega.{arith}
+use lib.ListN.{length}
+use denote.Ref.{now}
+use Rattle.tracing.proofs.Lines.{last-length, put-as}
+use borrow.Author.Needs.{needs}
+use Rattle.tracing.proofs.put_last.Statement.{statement}
+use Rattle.tracing.proofs.put_last.Tie as tie
+
+put-requires : tie.Need-put-requires
+put-requires c κs =
+    let z = c .before .before .before .before in
+    omega (arith, z .pre, ap length (c .before .before .last-line .ensures) ∙ last-length (z .args .reason) (z .args .place))
+
+returns : tie.Need-returns
+returns c =
+    let z = c .before .before .before .before .before .before .before in (
+      put-as (c .before .before .before .before .before .last-line .ensures) (c .before .before .put .ensures),
+      omega (arith, last-length (z .args .reason) (z .args .place)),
+    )
+
+pub put-last-spec : {M : Type 1} → statement M
+put-last-spec =
+    tie.close
+    (tie.spec
+    (search needs)
+    (search needs)
+    put-requires
+    (search needs)
+    (search needs)
+    returns)
