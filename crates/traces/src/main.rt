@@ -4,13 +4,6 @@
 ghost use Prim.Native.Nat.{_+_, _≤_};
 ghost use lib.ListN.{length};
 
-// The text of one input.
-fn one(input: &[u8]) {
-    let mut text = [0u8; tracing::MOST];
-    let n = tracing::trace(input, &mut text);
-    io::write_all(1, &text[..n]);
-}
-
 // The length that stands at a place.
 fn length_at(bundle: &[u8], at: usize) -> usize
     requires { ⌜ at + 4 ≤ length (now bundle) ⌝ }
@@ -18,8 +11,10 @@ fn length_at(bundle: &[u8], at: usize) -> usize
     bits::four_bytes(bundle[at], bundle[at + 1], bundle[at + 2], bundle[at + 3]) as usize
 }
 
-// The inputs one after another; one that is cut short ends it.
-fn all(bundle: &[u8]) {
+// The texts of the inputs one after another; an input that is cut short ends it.
+fn all(bundle: &[u8], text: &mut [u8])
+    requires { ⌜ 131048 ≤ length (now text) ⌝ }
+{
     let mut at: usize = 0;
     while at + 4 <= bundle.len() {
         let from = at + 4;
@@ -28,7 +23,7 @@ fn all(bundle: &[u8]) {
             return;
         }
         let to = from + n;
-        one(&bundle[from..to]);
+        tracing::write(&bundle[from..to], text);
         at = to;
     }
 }
@@ -36,5 +31,6 @@ fn all(bundle: &[u8]) {
 fn main() {
     let mut bundle = [0u8; 32768];
     let got = io::read_full(0, &mut bundle);
-    all(&bundle[..got]);
+    let mut text = [0u8; tracing::MOST];
+    all(&bundle[..got], &mut text);
 }

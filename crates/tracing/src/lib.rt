@@ -204,3 +204,11 @@ pub fn trace(input: &[u8], text: &mut [u8]) -> usize
     let mut file = [0u32; 64];
     trace_run(input, &mut file[0..registers], text)
 }
+
+// That text, written to standard output.
+pub fn write(input: &[u8], text: &mut [u8])
+    requires { ⌜ 131048 ≤ length (now text) ⌝ }
+{
+    let n = trace(input, text);
+    io::write_all(1, &text[..n]);
+}
