@@ -20,7 +20,7 @@ pub fn nibble_carries(a: u32, b: u32, c: u32, s: u64) -> u32
 {
     let binary = s ^ (a as u64) ^ (b as u64);
     let rest = s & !((binary >> 1) & EIGHTS);
-    (((((rest + SIXES) ^ rest) | binary) >> 4) & ONES) as u32
+    bits::low(((((rest + SIXES) ^ rest) | binary) >> 4) & ONES)
 }
 
 // The nibble borrows of a - b, one less where c is 0: the complements of the binary carries of a, the complement of b, and c.
