@@ -5,27 +5,27 @@ mod nibbles; // the nibble bits
 use machine::Inputs;
 use machine::Outputs;
 ghost use mathlib.Core.Path.{_≡_};
-ghost use Prim.Native.Nat.{_+_, _<_};
+ghost use Prim.Native.Nat.{_+_, _%_, _^_, _<_};
 ghost use lib.ListN.{getD};
 ghost use Rattle.machine.specs.Inputs.{Sound};
 ghost use Rattle.arithmetic.specs.Arithmetic.{added, sum, difference, increment, decrement, negate, ADD, ADDC, SUB, SUBC, SUBR, SUBRC};
 ghost use Rattle.arithmetic.specs.Decimal.{corrected, topNibble, correction, sumCorrect, diffCorrect, decimals, DIFF-CORR-B};
 
-// What a sum s of p, r and c leaves: cut to the selected bytes, C and V worked out apart. C is inverted where i is 1.
-fn added(x: Inputs, p: u32, r: u32, c: u32, i: u32, s: u64, nibbles: u32, u: u32) -> Outputs
-    requires { ⌜ Sound x × (c < 2) × (i < 2) × (s ≡ p + r + c) ⌝ }
+// What a sum p + r + c leaves, from its wrapped value s: cut to the selected bytes, C and V worked out apart. C is inverted where i is 1.
+fn added(x: Inputs, p: u32, r: u32, c: u32, i: u32, s: u32, nibbles: u32, u: u32) -> Outputs
+    requires { ⌜ Sound x × (c < 2) × (i < 2) × (s ≡ (p + r + c) % 2 ^ 32) ⌝ }
     ensures { λ o. ⌜ o ≡ added x p r c i nibbles u ⌝ }
 {
     let n = x.bits();
-    let f = bits::low(s);
+    let exact = bits::sum(p, r, c);
     let mut status = x.held();
-    status.z = bits::is_zero(f, n);
-    status.n = bits::sign(f, n);
-    status.c = (bits::carry(p, r, c, s, n) + i) % 2;
-    status.v = bits::overflow(p, r, c, s, n);
+    status.z = bits::is_zero(s, n);
+    status.n = bits::sign(s, n);
+    status.c = (bits::carry(p, r, c, exact, n) + i) % 2;
+    status.v = bits::overflow(p, r, c, exact, n);
     status.nibbles = nibbles;
     Outputs {
-        y: bits::merge(f, u, n),
+        y: bits::merge(s, u, n),
         q: x.q,
         status,
     }
@@ -36,8 +36,9 @@ fn sum(x: Inputs, p: u32, r: u32, c: u32, i: u32, u: u32) -> Outputs
     requires { ⌜ Sound x × (c < 2) × (i < 2) ⌝ }
     ensures { λ o. ⌜ o ≡ sum x p r c i u ⌝ }
 {
-    let s = bits::sum(p, r, c);
-    added(x, p, r, c, i, s, nibbles::nibble_carries(p, r, c, s), u)
+    let s = bits::add(p, r, c);
+    let nibbles = nibbles::nibble_carries(p, r, c, bits::sum(p, r, c));
+    added(x, p, r, c, i, s, nibbles, u)
 }
 
 // p - r where c is 1, and one less where it is 0.
@@ -45,8 +46,8 @@ fn difference(x: Inputs, p: u32, r: u32, c: u32, u: u32) -> Outputs
     requires { ⌜ Sound x × (c < 2) ⌝ }
     ensures { λ o. ⌜ o ≡ difference x p r c u ⌝ }
 {
-    let s = bits::sum(p, !r, c);
-    let nibbles = nibbles::nibble_borrows(p, r, c, s);
+    let s = bits::subtract(p, r, c);
+    let nibbles = nibbles::nibble_borrows(p, r, c, bits::sum(p, !r, c));
     added(x, p, !r, c, x.borrow, s, nibbles, u)
 }
 
@@ -165,7 +166,7 @@ fn diff_correct(x: Inputs, s: u32) -> Outputs
     requires { ⌜ Sound x ⌝ }
     ensures { λ o. ⌜ o ≡ diffCorrect x s ⌝ }
 {
-    let r = bits::add(s, !correction(x), 1);
+    let r = bits::subtract(s, correction(x), 1);
     corrected(x, r, 1 - (top_nibble(x) + x.borrow) % 2, s)
 }
 

@@ -1,5 +1,5 @@
 // Leaves: the nibble bits, STATUS <31:24> (appendix A), each at its nibble's place. Every sum and difference has them, so all eight are worked
-// out at once, from the sum s that the operation needs anyhow: it differs from its operands where a binary carry came in.
+// out at once, from the exact sum s that gives C and V too: it differs from its operands where a binary carry came in.
 ghost use mathlib.Core.Path.{_≡_};
 ghost use Prim.Native.Nat.{_+_, _-_, _<_};
 ghost use Rattle.bits.specs.Bits.{notOf};

@@ -157,6 +157,22 @@ put-zero i x h hx =
 pub one-shl : (i : ℕ) → i < 32 → (1 * 2 ^ i) % 2 ^ 32 ≡ 2 ^ i
 one-shl i h = ap (λ (x : ℕ). x % 2 ^ 32) (one-mul (2 ^ i)) ∙ mod-eq-of-lt (pow-lt h)
 
+-- a wrapped difference as a remainder
+pub diff-wrap : (x y r : ℕ) → x < 2 ^ 32 → y < 2 ^ 32 → r < 2 ^ 32 → (r + y) % 2 ^ 32 ≡ x → r ≡ (x + (2 ^ 32 - y)) % 2 ^ 32
+diff-wrap x y r hx hy hr e = omega arith
+
+-- two wrapped differences as one wrapped sum with the complement
+pub sub-wrap : (a b c r s : ℕ) → a < 2 ^ 32 → b < 2 ^ 32 → c < 2 → r < 2 ^ 32 → s < 2 ^ 32 → (r + b) % 2 ^ 32 ≡ a → (s + (1 - c)) % 2 ^ 32 ≡ r → s ≡ (a + ((2 ^ 32 - 1) - b) + c) % 2 ^ 32
+sub-wrap a b c r s ha hb hc hr hs e f =
+    diff-wrap r (1 - c) s hr (omega arith) hs f
+    ∙ ap (λ (x : ℕ). (x + (2 ^ 32 - (1 - c))) % 2 ^ 32) (diff-wrap a b r ha hb hr e)
+    ∙ mod-add-mod (a + (2 ^ 32 - b)) (2 ^ 32) (2 ^ 32 - (1 - c))
+    ∙ ap (λ (x : ℕ). x % 2 ^ 32) (shape a b c hb hc)
+    ∙ add-mod-right (a + ((2 ^ 32 - 1) - b) + c) (2 ^ 32)
+  where
+    shape : (a b c : ℕ) → b < 2 ^ 32 → c < 2 → a + (2 ^ 32 - b) + (2 ^ 32 - (1 - c)) ≡ a + ((2 ^ 32 - 1) - b) + c + 2 ^ 32
+    shape a b c hb hc = omega arith
+
 -- a choice by a number that is 0, and by one that is not
 pub choose-zero {ℓ} : {A : Type ℓ} (f : ℕ) (a b : A) → f ≡ 0 → choose f a b ≡ a
 choose-zero f a b e = ap (λ (k : ℕ). choose k a b) e

@@ -90,6 +90,14 @@ pub fn add(a: u32, b: u32, c: u32) -> u32
     std::num::wrapping_add_u32(std::num::wrapping_add_u32(a, b), c)
 }
 
+// The wrapping difference: a - b where c is 1, and one less where c is 0.
+pub fn subtract(a: u32, b: u32, c: u32) -> u32
+    requires { ⌜ c < 2 ⌝ }
+    ensures { λ r. ⌜ r ≡ (a + notOf b + c) % 2 ^ 32 ⌝ }
+{
+    std::num::wrapping_sub_u32(std::num::wrapping_sub_u32(a, b), 1 - c)
+}
+
 // The sum with its carry out of the data word, from which carry and overflow of any width can be read.
 pub fn sum(a: u32, b: u32, c: u32) -> u64
     ensures { λ r. ⌜ r ≡ a + b + c ⌝ }
@@ -97,7 +105,7 @@ pub fn sum(a: u32, b: u32, c: u32) -> u64
     a as u64 + b as u64 + c as u64
 }
 
-// The data word of a sum.
+// The low 32 bits.
 pub fn low(s: u64) -> u32
     ensures { λ r. ⌜ r ≡ s % 2 ^ 32 ⌝ }
 {

@@ -218,10 +218,10 @@ fn correct_quotient(x: Inputs) -> Outputs
     let n = x.bits();
     let less = 1 - x.status.m;
     let one = steps::operand(1, less);
-    let s = bits::sum(x.b, one, less);
-    let f = bits::low(s);
-    status.c = bits::carry(x.b, one, less, s, n);
-    status.v = bits::overflow(x.b, one, less, s, n);
+    let f = bits::add(x.b, one, less);
+    let exact = bits::sum(x.b, one, less);
+    status.c = bits::carry(x.b, one, less, exact, n);
+    status.v = bits::overflow(x.b, one, less, exact, n);
     Outputs {
         y: bits::merge(f, x.b, n),
         q: x.q,

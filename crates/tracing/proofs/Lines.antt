@@ -5,7 +5,7 @@ use Prim.Native.Nat.{ℕ, _+_, _-_, _/_, _%_, _^_, _≤_, _<_, min}
 use native.Mathlib.Omega.{arith}
 use lib.ListN.{length, getD}
 use Rattle.machine.specs.declared.Machine.{Machine}
-use Rattle.machine.specs.Status.{asRead, loaded, Good, freshOf}
+use Rattle.machine.specs.Status.{gathered, spreadOut, asRead, loaded, Good, freshOf}
 use Rattle.reasons.specs.declared.Reason.{Reason}
 use Rattle.reasons.specs.declared.Reason.the-variants.{Done}
 use Rattle.reasons.specs.declared.Check.{Check}
@@ -78,7 +78,7 @@ pub record Showing (s l₀ l : List ℕ) (m : Machine) (k : ℕ) : Type 0 where
   pub machine : m ≡ handedBack (after s l₀ k)
 
 pub showing-none : (s l₀ : List ℕ) (m : Machine) → m ≡ freshOf → Showing s l₀ l₀ m 0
-unfolding execs wordsFrom asRead loaded
+unfolding execs wordsFrom gathered spreadOut asRead loaded
 showing-none s l₀ m e = record { size = refl; low = omega arith; file = refl; machine = e }
 
 module _ (s l₀ : List ℕ) (ok : checkOf s (Number (length l₀)) (Number 0) ≡ Passed) where

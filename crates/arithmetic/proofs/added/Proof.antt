@@ -1,4 +1,4 @@
--- Y, Z and N are of the data word of the sum, which is the sum in the selected bytes; C and V as the leaves give them. Assumes nothing.
+-- Y, Z and N are of the wrapped sum, which is the sum in the selected bytes; C and V as the leaves give them. Assumes nothing.
 use native.Mathlib.Omega.{arith}
 use Prim.Native.Nat.{ℕ, _+_}
 use Rattle.bits.specs.Bits.{xor, carryOf, overflowOf}
@@ -14,8 +14,8 @@ use Rattle.arithmetic.proofs.added.Tie as tie
 bits-requires : tie.Need-bits-requires
 bits-requires c κs = search needs
 
-low-requires : tie.Need-low-requires
-low-requires c κs = search needs
+sum-requires : tie.Need-sum-requires
+sum-requires c κs = search needs
 
 held-requires : tie.Need-held-requires
 held-requires c κs = search needs
@@ -46,7 +46,7 @@ returns c =
     let k : ℕ = c .before .before .before .before .before .before .before .before .args .c in
     let i : ℕ = c .before .before .before .before .before .before .before .before .args .i in
     let b : ℕ = c .before .before .before .before .before .before .before .before .args .nibbles in
-    rw (c .merge .ensures, c .before .overflow .ensures, c .before .before .carry .ensures, c .before .before .before .sign .ensures, c .before .before .before .before .is-zero .ensures, c .before .before .before .before .before .held .ensures, c .before .before .before .before .before .before .low .ensures, c .before .before .before .before .before .before .before .bits .ensures .0, c .before .before .before .before .before .before .before .before .pre .3)
+    rw (c .merge .ensures, c .before .overflow .ensures, c .before .before .carry .ensures, c .before .before .before .sign .ensures, c .before .before .before .before .is-zero .ensures, c .before .before .before .before .before .held .ensures, c .before .before .before .before .before .before .before .bits .ensures .0, c .before .before .before .before .before .before .before .before .pre .3)
     (wrapped x (p + r + k) _ (λ t. withNibbles b (withV (overflowOf (bitsOf x) p r k) (withC (xor (carryOf (bitsOf x) p r k) i) t))) (c .before .before .before .before .before .before .before .before .pre .0))
 
 pub added-spec : {M : Type 1} → statement M
@@ -54,7 +54,7 @@ added-spec =
     tie.close
     (tie.spec
     bits-requires
-    low-requires
+    sum-requires
     held-requires
     is-zero-requires
     sign-requires

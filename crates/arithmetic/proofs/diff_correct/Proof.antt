@@ -12,8 +12,8 @@ use Rattle.arithmetic.proofs.diff_correct.Tie as tie
 correction-requires : tie.Need-correction-requires
 correction-requires c κs = search needs
 
-add-requires : tie.Need-add-requires
-add-requires c κs = search needs
+subtract-requires : tie.Need-subtract-requires
+subtract-requires c κs = search needs
 
 top-nibble-requires : tie.Need-top-nibble-requires
 top-nibble-requires c κs = search needs
@@ -32,7 +32,7 @@ unfolding diffCorrect
 returns c =
     let x : Inputs = c .before .before .before .before .before .args .x in
     let s : ℕ = c .before .before .before .before .before .args .s in
-    rw (c .corrected .ensures, c .before .before .top-nibble .ensures .0, c .before .before .before .add .ensures, c .before .before .before .before .correction .ensures)
+    rw (c .corrected .ensures, c .before .before .top-nibble .ensures .0, c .before .before .before .subtract .ensures, c .before .before .before .before .correction .ensures)
     (wrapped x (s + notOf (correction x) + 1) s (λ t. withV (xor (topNibble x) (nextNibble x)) (withC (1 - xor (topNibble x) (x .borrow)) t)) (c .before .before .before .before .before .pre))
 
 pub diff-correct-spec : {M : Type 1} → statement M
@@ -40,7 +40,7 @@ diff-correct-spec =
     tie.close
     (tie.spec
     correction-requires
-    add-requires
+    subtract-requires
     top-nibble-requires
     add-corrected
     sub-corrected

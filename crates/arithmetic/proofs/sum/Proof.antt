@@ -1,8 +1,11 @@
--- The exact sum and the nibble bits, as `added` takes them. Assumes nothing.
+-- The wrapped sum and the nibble carries, as `added` takes them. Assumes nothing.
 use Rattle.arithmetic.specs.Arithmetic.{sum}
 use borrow.Author.Needs.{needs}
 use Rattle.arithmetic.proofs.sum.Statement.{statement}
 use Rattle.arithmetic.proofs.sum.Tie as tie
+
+add-requires : tie.Need-add-requires
+add-requires c κs = search needs
 
 sum-requires : tie.Need-sum-requires
 sum-requires c κs = search needs
@@ -18,4 +21,4 @@ unfolding sum
 returns c = rw (c .added .ensures, c .before .nibble-carries .ensures)
 
 pub sum-spec : {M : Type 1} → statement M
-sum-spec = tie.close (tie.spec sum-requires nibble-carries-requires added-requires returns)
+sum-spec = tie.close (tie.spec add-requires sum-requires nibble-carries-requires added-requires returns)

@@ -31,11 +31,11 @@ sub-less c = search needs
 operand-requires : tie.Need-operand-requires
 operand-requires c κs = search needs
 
+add-requires : tie.Need-add-requires
+add-requires c κs = search needs
+
 sum-requires : tie.Need-sum-requires
 sum-requires c κs = search needs
-
-low-requires : tie.Need-low-requires
-low-requires c κs = search needs
 
 carry-requires : tie.Need-carry-requires
 carry-requires c κs = search needs
@@ -53,7 +53,7 @@ returns-2 c =
     let s = c .before .before .before .before .before .before .before .before .before .before .before .pre in
     let h = bits-le x s in
     let t : printedTest x ≡ 0 → ⊥ = λ e. c .before .before .before .before .before .before .before .before .if1 .left (c .before .before .before .before .before .before .before .before .before .printed-test .ensures ∙ e) in
-    rw (c .merge .ensures, c .before .overflow .ensures, c .before .before .carry .ensures, c .before .before .before .low .ensures, c .before .before .before .before .sum .ensures, c .before .before .before .before .before .operand .ensures, c .before .before .before .before .before .before .before .bits .ensures .0, c .before .before .before .before .before .before .before .before .before .before .held .ensures, merged-wrap, choose-one _ _ _ t, choose-one _ _ _ t, choose-one _ _ _ t, choose-not _ _ _ (s .status .m))
+    rw (c .merge .ensures, c .before .overflow .ensures, c .before .before .carry .ensures, c .before .before .before .before .add .ensures, c .before .before .before .before .before .operand .ensures, c .before .before .before .before .before .before .before .bits .ensures .0, c .before .before .before .before .before .before .before .before .before .before .held .ensures, merged-wrap, choose-one _ _ _ t, choose-one _ _ _ t, choose-one _ _ _ t, choose-not _ _ _ (s .status .m))
 
 pub correct-quotient-spec : {M : Type 1} → statement M
 correct-quotient-spec =
@@ -65,8 +65,8 @@ correct-quotient-spec =
     bits-requires
     sub-less
     operand-requires
+    add-requires
     sum-requires
-    low-requires
     carry-requires
     overflow-requires
     merge-requires

@@ -11,18 +11,18 @@ operand-requires c κs = search needs
 sum-requires : tie.Need-sum-requires
 sum-requires c κs = search needs
 
-low-requires : tie.Need-low-requires
-low-requires c κs = search needs
+add-requires : tie.Need-add-requires
+add-requires c κs = search needs
 
 carry-requires : tie.Need-carry-requires
 carry-requires c κs = search needs
 
 returns : tie.Need-returns
 returns c = (
-  c .before .low .ensures ∙ rw (c .before .before .sum .ensures, c .before .before .before .operand .ensures),
+  c .before .add .ensures ∙ rw (c .before .before .before .operand .ensures),
   c .carry .ensures ∙ rw (c .before .before .before .operand .ensures),
   rw (c .carry .ensures) (carry-lt _ _ _ _ (c .before .before .before .before .pre .2)),
 )
 
 pub form-spec : {M : Type 1} → statement M
-form-spec = tie.close (tie.spec operand-requires sum-requires low-requires carry-requires returns)
+form-spec = tie.close (tie.spec operand-requires sum-requires add-requires carry-requires returns)
