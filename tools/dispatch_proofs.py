@@ -11,10 +11,6 @@ import sys
 CRATES = pathlib.Path(__file__).resolve().parent.parent / "crates"
 FAMILIES = [("shifts", "shift"), ("arithmetic", "decimal"), ("multiply", "multiply"), ("divide", "divide"), ("fields", "field"), ("chip", "basic")]
 
-# What a call requires, where `search needs` does not find it: A* is below the weight that the width gives.
-EXTENDED = "(λ c κs. (search needs, rw (← c .before .before .bits .ensures .0) (search needs)))"
-REQUIRES = {("multiply", "first_step"): EXTENDED, ("multiply", "step"): EXTENDED}
-
 FAMILY = """\
 -- Each arm's call gives the entry of `{table}` at its number, and the default's the last entry. Written by tools/dispatch_proofs.py.
 -- Assumes nothing.
@@ -72,7 +68,7 @@ def proof(crate, function, source):
     before, match = re.search(r"pub fn %s\(.*?\n}\n" % function, source, re.S).group().split("    match ")
     arms = re.findall(r"^        (\w+) => (.*),(?: //.*)?$", match, re.M)
     family = re.search(r"getD (\S+) k (\S+) x", before)
-    requires = [REQUIRES.get((crate, name), "(search needs)") for code in [before.split("\n{\n")[1]] + [arm for _, arm in arms] for name in calls(code)]
+    requires = ["(search needs)" for code in [before.split("\n{\n")[1]] + [arm for _, arm in arms] for _ in calls(code)]
     returns, times = [], {}
     for number, (key, arm) in enumerate(arms):
         # what is known of the matched number stands before each call, and before an operator on an input

@@ -1,334 +1,178 @@
--- The nibble bits of a sum and of a difference, read off one wide sum: where it differs from its operands at bits 4, 8, .., a carry or a borrow
--- came out of the nibble below. Assumes nothing.
+-- The nibble bits of a sum and of a difference, read off the binary sum: where it differs from its operands at bits 4, 8, .., a carry came out of
+-- the nibble below. Assumes nothing.
 use mathlib.Core.Path.{_≡_, refl, sym, ap, ap₂, _∙_}
 use mathlib.Core.Bool.{Bool, true, false}
-use Prim.Native.Nat.{ℕ, zero, suc, _+_, _-_, _*_, _/_, _%_, _^_, _≤_, _<_}
-use native.Mathlib.Nat.{mod-lt}
+use Prim.Native.Nat.{ℕ, zero, suc, _+_, _-_, _*_, _/_, _%_, _^_, _≤_, _<_, min, max}
+use native.Mathlib.Nat.{mod-lt, add-zero, lt-of-le-of-lt}
 use native.Mathlib.Omega.{arith}
-use lib.Dec.{ltb, leb}
-use lib.Arith.{digits-div, digits-mod}
-use lib.Pow.{pow-pos, split, shr-shr}
-use lib.Bits.{bitAnd, bitXor, and-mask, and-block, and-zero-r, xor-shr}
-use borrow.Author.Tests.{ltb-true, ltb-false, leb-true, leb-false, lt-leb, lt-ltb, le-ltb}
-use Rattle.bits.specs.Bits.{flag, bitOf}
-use Rattle.bits.proofs.Laws.{and-bit}
-use Rattle.bits.proofs.BitByBit.{bit-xor}
+use lib.Dec.{ltb, lit<}
+use lib.Pow.{pow-pos, split}
+use lib.Bits.{bitAnd, bitOr, bitXor, and-zero-r, and-le-l, and-le-r, and-mask, and-block, or-shr, xor-shr}
+use borrow.Author.Tests.{ltb-true, ltb-false}
+use Rattle.bits.specs.Bits.{flag, bitOf, notOf}
+use Rattle.bits.proofs.Laws.{and-bit, and-compl}
+use Rattle.bits.proofs.BitByBit.{by-flag, bit-or, bit-xor}
 use Rattle.bits.proofs.Bounds.{flag-lt}
-use Rattle.arithmetic.specs.Nibbles.{nibbleCarries, nibbleBorrows, sixes}
+use Rattle.arithmetic.specs.Nibbles.{nibbleCarries, nibbleBorrows}
 
--- ---- tests as flags
 -- a flag is 1 where its test holds, and 0 where it fails
 by-test : (P : ℕ → Type 0) (t : Bool) → (t ≡ true → P 1) → (t ≡ false → P 0) → P (flag t)
 by-test P true p q = p refl
 by-test P false p q = q refl
 
--- a threshold as a quotient
-reach : (h s : ℕ) → h ≤ 128 → s < 128 → (s + (128 - h)) / 128 ≡ flag (leb h s)
-reach h s l m =
-    by-test (λ (f : ℕ). (s + (128 - h)) / 128 ≡ f) (leb h s)
-    (λ e. let g : h ≤ s = leb-true h s e in omega arith)
-    (λ e. let g : s < h = leb-false h s e in omega arith)
+-- ---- masks of k nibbles, the same digit in each
+unfoldable pub each : ℕ → ℕ → ℕ
+each d zero = 0
+each d (suc k) = d + 16 * each d k
 
--- ---- bits 4, 8, .. of a number, side by side
+and-nibble : (x q m : ℕ) → m < 2 ^ 4 → bitAnd x (m + 16 * q) ≡ bitAnd (x % 16) m + 16 * bitAnd (x / 16) q
+and-nibble x q m h =
+    ap₂ bitAnd (sym (split x 4)) (turned m q)
+    ∙ and-block 4 (x / 2 ^ 4) q (x % 2 ^ 4) m (mod-lt x (pow-pos 4)) h
+    ∙ sym (turned (bitAnd (x % 16) m) (bitAnd (x / 16) q))
+  where
+    turned : (m q : ℕ) → m + 16 * q ≡ q * 2 ^ 4 + m
+    turned m q = omega arith
+
+-- bit 0 of each nibble
 unfoldable pub taken : ℕ → ℕ → ℕ
 taken zero x = 0
-taken (suc k) x = x / 2 ^ 4 % 2 + 2 * taken k (x / 2 ^ 4)
+taken (suc k) x = x % 2 + 16 * taken k (x / 16)
 
--- the same of the exclusive or of three
-unfoldable pub apart : ℕ → ℕ → ℕ → ℕ → ℕ
-apart zero d a b = 0
-apart (suc k) d a b = (d / 2 ^ 4 + a / 2 ^ 4 + b / 2 ^ 4) % 2 + 2 * apart k (d / 2 ^ 4) (a / 2 ^ 4) (b / 2 ^ 4)
+ones-law : (k x : ℕ) → bitAnd x (each 1 k) ≡ taken k x
+unfolding each taken
+ones-law zero x = and-zero-r x
+ones-law (suc k) x = and-nibble x (each 1 k) 1 (omega arith) ∙ ap₂ (λ (p q : ℕ). p + 16 * q) (and-mask (x % 16) 1 ∙ omega arith) (ones-law k (x / 16))
 
-taken-xor : (k d a b : ℕ) → taken k (bitXor (bitXor d a) b) ≡ apart k d a b
-unfolding taken apart
-taken-xor zero d a b = refl
-taken-xor (suc k) d a b =
-    ap₂ (λ (p q : ℕ). p + 2 * q)
-    (bit-xor 4 (bitXor d a) b ∙ ap (λ (x : ℕ). (x + bitOf 4 b) % 2) (bit-xor 4 d a ∙ parity (d / 2 ^ 4) (a / 2 ^ 4)) ∙ parity (d / 2 ^ 4 + a / 2 ^ 4) (b / 2 ^ 4))
-    (ap (taken k) (xor-shr (bitXor d a) b 4 ∙ ap (λ (x : ℕ). bitXor x (b / 2 ^ 4)) (xor-shr d a 4)) ∙ taken-xor k (d / 2 ^ 4) (a / 2 ^ 4) (b / 2 ^ 4))
+-- bit 3 of the nibbles of s that have carried: those with a bit of x above them
+abbrev cleared : ℕ → ℕ → ℕ → ℕ
+cleared k s x = bitAnd s (bitAnd (x / 2 ^ 1) (each 8 k))
+
+cleared-suc : (k s x : ℕ) → cleared (suc k) s x ≡ 8 * min (s / 8 % 2) (x / 16 % 2) + 16 * cleared k (s / 16) (x / 16)
+unfolding each
+cleared-suc k s x =
+    ap (bitAnd s) (and-nibble (x / 2 ^ 1) (each 8 k) 8 (omega arith) ∙ ap₂ (λ (p q : ℕ). p + 16 * bitAnd q (each 8 k)) (and-bit 3 (x / 2 ^ 1 % 16) ∙ eighth x) (halves x))
+    ∙ and-nibble s (bitAnd (x / 16 / 2 ^ 1) (each 8 k)) (8 * (x / 16 % 2)) (omega arith)
+    ∙ ap (λ (p : ℕ). p + 16 * cleared k (s / 16) (x / 16)) (by-flag (λ (f : ℕ). bitAnd (s % 16) (8 * f) ≡ 8 * min (s / 8 % 2) f) (and-zero-r (s % 16) ∙ none (s / 8 % 2)) (and-bit 3 (s % 16) ∙ top s) (x / 16 % 2) (omega arith))
   where
-    parity : (x y : ℕ) → (x % 2 + y % 2) % 2 ≡ (x + y) % 2
-    parity x y = omega arith
+    eighth : (x : ℕ) → x / 2 ^ 1 % 16 / 2 ^ 3 % 2 * 2 ^ 3 ≡ 8 * (x / 16 % 2)
+    eighth x = omega arith
 
--- ---- borrows: a difference with room above
-borrow-chain : (k d a b w : ℕ) → w < 2 → d + b + w ≡ a + 16 ^ suc k → apart k d a b ≡ nibbleBorrows k a b w
-unfolding apart nibbleBorrows
-borrow-chain zero d a b w h e = refl
-borrow-chain (suc k) d a b w h e =
-    by-test (λ (t : ℕ). (d / 16 + a / 16 + b / 16) % 2 + 2 * apart k (d / 16) (a / 16) (b / 16) ≡ t + 2 * nibbleBorrows k (a / 16) (b / 16) t)
-    (ltb (a % 16) (b % 16 + w))
-    (λ t. let l : a % 16 < b % 16 + w = ltb-true _ _ t in
-    let f : d / 16 + b / 16 + 1 ≡ a / 16 + 16 ^ suc k = omega arith in
-    ap₂ (λ (p q : ℕ). p + 2 * q) (omega arith) (borrow-chain k (d / 16) (a / 16) (b / 16) 1 (omega arith) f))
-    (λ t. let l : b % 16 + w ≤ a % 16 = ltb-false _ _ t in
-    let f : d / 16 + b / 16 + 0 ≡ a / 16 + 16 ^ suc k = omega arith in
-    ap₂ (λ (p q : ℕ). p + 2 * q) (omega arith) (borrow-chain k (d / 16) (a / 16) (b / 16) 0 (omega arith) f))
+    halves : (x : ℕ) → x / 2 ^ 1 / 16 ≡ x / 16 / 2 ^ 1
+    halves x = omega arith
 
--- ---- carries: 15 in a nibble whose digits make nine, which passes a carry on, and 16 in one whose digits make ten
-unfoldable pub makes : ℕ → ℕ → ℕ → ℕ
-makes h a b = flag (leb h (a % 16 + b % 16))
+    none : (x : ℕ) → 0 ≡ 8 * min x 0
+    none x = omega arith
 
-unfoldable pub making : ℕ → ℕ → ℕ → ℕ → ℕ
-making h zero a b = 0
-making h (suc k) a b = makes h a b + 16 * making h k (a / 16) (b / 16)
+    top : (s : ℕ) → s % 16 / 2 ^ 3 % 2 * 2 ^ 3 ≡ 8 * min (s / 8 % 2) 1
+    top s = omega arith
 
--- one nibble: its carry out, and what stays below it
-step : (a b c : ℕ) → c < 2 → (r : ℕ) × (r < 16) × (15 * makes 9 a b + makes 10 a b + c ≡ 16 * flag (ltb 9 (a % 16 + b % 16 + c)) + r)
-unfolding makes
-step a b c h =
-    by-test (λ (p : ℕ). (r : ℕ) × (r < 16) × (15 * p + flag (leb 10 s) + c ≡ 16 * flag (ltb 9 (s + c)) + r)) (leb 9 s)
-    (λ e. let l : 9 ≤ s = leb-true 9 s e in
-    by-test (λ (g : ℕ). (r : ℕ) × (r < 16) × (15 * 1 + g + c ≡ 16 * flag (ltb 9 (s + c)) + r)) (leb 10 s)
-    (λ e. let l : 10 ≤ s = leb-true 10 s e in (c, omega arith, rw (lt-ltb 9 (s + c) (omega arith)) (omega arith)))
-    (λ e. let m : s < 10 = leb-false 10 s e in
-    by-test (λ (t : ℕ). (r : ℕ) × (r < 16) × (15 * 1 + 0 + c ≡ 16 * t + r)) (ltb 9 (s + c))
-    (λ e. let n : 9 < s + c = ltb-true 9 (s + c) e in (0, omega arith, omega arith))
-    (λ e. let n : s + c ≤ 9 = ltb-false 9 (s + c) e in (15, omega arith, omega arith))))
-    (λ e. let l : s < 9 = leb-false 9 s e in
-    (c, omega arith, rw (lt-leb 10 s (omega arith), le-ltb 9 (s + c) (omega arith)) (omega arith)))
-  where
-    s : ℕ
-    s = a % 16 + b % 16
+-- ---- where a sum s differs from its operands a and b, there a carry came in
+abbrev carriesIn : ℕ → ℕ → ℕ → ℕ
+carriesIn s a b = bitXor (bitXor s a) b
 
-makes-lt : (h a b : ℕ) → makes h a b < 2
-unfolding makes
-makes-lt h a b = flag-lt (leb h (a % 16 + b % 16))
+module _ (s a b : ℕ) where
+  four-down : carriesIn s a b / 16 ≡ carriesIn (s / 16) (a / 16) (b / 16)
+  four-down = xor-shr (bitXor s a) b 4 ∙ ap (λ (x : ℕ). bitXor x (b / 2 ^ 4)) (xor-shr s a 4)
 
--- a digit below 16 under others
-above : (x p : ℕ) → x < 2 → (x + 16 * p) / 16 ≡ p
-above x p h = omega arith
-
-carry-chain : (k d a b c : ℕ) → c < 2 → d ≡ 15 * making 9 k a b + making 10 k a b + c → apart k d (making 9 k a b) (making 10 k a b) ≡ nibbleCarries k a b c
-unfolding apart making nibbleCarries
-carry-chain zero d a b c h e = refl
-carry-chain (suc k) d a b c h e =
-    let (r, l, f) = step a b c h in
-    let t : ℕ = flag (ltb 9 (a % 16 + b % 16 + c)) in
-    let p : ℕ = making 9 k (a / 16) (b / 16) in
-    let q : ℕ = making 10 k (a / 16) (b / 16) in
-    let g : d / 16 ≡ 15 * p + q + t = shape (makes 9 a b) (makes 10 a b) p q c t r d l f e in
-    let m : t < 2 = flag-lt (ltb 9 (a % 16 + b % 16 + c)) in
-    rw (above (makes 9 a b) p (makes-lt 9 a b), above (makes 10 a b) q (makes-lt 10 a b))
-    (ap₂ (λ (u v : ℕ). u + 2 * v) (ap (λ (u : ℕ). (u + p + q) % 2) g ∙ even p q t m) (carry-chain k (d / 16) (a / 16) (b / 16) t m g))
-  where
-    shape : (x y p q c t r d : ℕ) → r < 16 → 15 * x + y + c ≡ 16 * t + r → d ≡ 15 * (x + 16 * p) + (y + 16 * q) + c → d / 16 ≡ 15 * p + q + t
-    shape x y p q c t r d l f e = omega arith
-
-    even : (p q t : ℕ) → t < 2 → (15 * p + q + t + p + q) % 2 ≡ t
-    even p q t m = omega arith
-
--- ---- eight nibbles
--- four bits further down
-next : (x y j : ℕ) → y ≡ x / 2 ^ j → y / 2 ^ 4 ≡ x / 2 ^ (j + 4)
-next x y j e = ap (λ (z : ℕ). z / 2 ^ 4) e ∙ shr-shr x j 4
-
-abbrev bitsTaken : ℕ → ℕ
-bitsTaken x =
-    x / 2 ^ 4 % 2
-    + x / 2 ^ 8 % 2 * 2
-    + x / 2 ^ 12 % 2 * 4
-    + x / 2 ^ 16 % 2 * 8
-    + x / 2 ^ 20 % 2 * 16
-    + x / 2 ^ 24 % 2 * 32
-    + x / 2 ^ 28 % 2 * 64
-    + x / 2 ^ 32 % 2 * 128
-
-module _ (x : ℕ) where
-  down-2 : x / 2 ^ 4 / 2 ^ 4 ≡ x / 2 ^ 8
-  down-2 = next x (x / 2 ^ 4) 4 refl
-
-  down-3 : x / 2 ^ 4 / 2 ^ 4 / 2 ^ 4 ≡ x / 2 ^ 12
-  down-3 = next x _ 8 down-2
-
-  down-4 : x / 2 ^ 4 / 2 ^ 4 / 2 ^ 4 / 2 ^ 4 ≡ x / 2 ^ 16
-  down-4 = next x _ 12 down-3
-
-  down-5 : x / 2 ^ 4 / 2 ^ 4 / 2 ^ 4 / 2 ^ 4 / 2 ^ 4 ≡ x / 2 ^ 20
-  down-5 = next x _ 16 down-4
-
-  down-6 : x / 2 ^ 4 / 2 ^ 4 / 2 ^ 4 / 2 ^ 4 / 2 ^ 4 / 2 ^ 4 ≡ x / 2 ^ 24
-  down-6 = next x _ 20 down-5
-
-  down-7 : x / 2 ^ 4 / 2 ^ 4 / 2 ^ 4 / 2 ^ 4 / 2 ^ 4 / 2 ^ 4 / 2 ^ 4 ≡ x / 2 ^ 28
-  down-7 = next x _ 24 down-6
-
-  down-8 : x / 2 ^ 4 / 2 ^ 4 / 2 ^ 4 / 2 ^ 4 / 2 ^ 4 / 2 ^ 4 / 2 ^ 4 / 2 ^ 4 ≡ x / 2 ^ 32
-  down-8 = next x _ 28 down-7
-
-  pub taken-eight : bitsTaken x ≡ taken 8 x
-  unfolding taken
-  taken-eight =
-      rw (down-8, down-7, down-6, down-5, down-4, down-3, down-2)
-      (shape (x / 2 ^ 4 % 2) (x / 2 ^ 8 % 2) (x / 2 ^ 12 % 2) (x / 2 ^ 16 % 2) (x / 2 ^ 20 % 2) (x / 2 ^ 24 % 2) (x / 2 ^ 28 % 2) (x / 2 ^ 32 % 2))
+  carry-in : (t : ℕ) → t < 2 → s / 16 ≡ a / 16 + b / 16 + t → carriesIn s a b / 16 % 2 ≡ t
+  carry-in t h e = bit-xor 4 (bitXor s a) b ∙ ap (λ (x : ℕ). (x + bitOf 4 b) % 2) (bit-xor 4 s a) ∙ twice (s / 16) (a / 16) (b / 16) t h e
     where
-      shape : (a b c d e f g h : ℕ) → a + b * 2 + c * 4 + d * 8 + e * 16 + f * 32 + g * 64 + h * 128 ≡ a + 2 * (b + 2 * (c + 2 * (d + 2 * (e + 2 * (f + 2 * (g + 2 * (h + 2 * 0)))))))
-      shape a b c d e f g h = omega arith
+      twice : (s a b t : ℕ) → t < 2 → s ≡ a + b + t → ((s % 2 + a % 2) % 2 + b % 2) % 2 ≡ t
+      twice s a b t h e = omega arith
 
--- nibbles 0, 2, 4 and 6
-abbrev pub evensMaking : ℕ → ℕ → ℕ → ℕ
-evensMaking h a b =
-    flag (leb h (a % 16 + b % 16))
-    + flag (leb h (a / 2 ^ 8 % 16 + b / 2 ^ 8 % 16)) * 2 ^ 8
-    + flag (leb h (a / 2 ^ 16 % 16 + b / 2 ^ 16 % 16)) * 2 ^ 16
-    + flag (leb h (a / 2 ^ 24 % 16 + b / 2 ^ 24 % 16)) * 2 ^ 24
+-- ---- borrows: the complements of the carries of a, the complement d of b, and c
+borrow-chain : (k s a b d c : ℕ) → c < 2 → b + d + 1 ≡ 16 ^ k → s ≡ a + d + c → taken k (carriesIn s a d / 16) + nibbleBorrows k a b (1 - c) ≡ each 1 k
+unfolding taken nibbleBorrows each
+borrow-chain zero s a b d c h f e = refl
+borrow-chain (suc k) s a b d c h f e =
+    by-test (λ (t : ℕ). carriesIn s a d / 16 % 2 + 16 * taken k (carriesIn s a d / 16 / 16) + (t + 16 * nibbleBorrows k (a / 16) (b / 16) t) ≡ 1 + 16 * each 1 k)
+    (ltb (a % 16) (b % 16 + (1 - c)))
+    (λ t. let l : a % 16 < b % 16 + (1 - c) = ltb-true _ _ t in
+    let o : s / 16 ≡ a / 16 + d / 16 + 0 = omega arith in
+    let p : carriesIn s a d / 16 % 2 ≡ 0 = carry-in s a d 0 (omega arith) o in
+    let q : taken k (carriesIn s a d / 16 / 16) + nibbleBorrows k (a / 16) (b / 16) 1 ≡ each 1 k = rw (four-down s a d) (borrow-chain k (s / 16) (a / 16) (b / 16) (d / 16) 0 (omega arith) (omega arith) o) in
+    rw p (omega arith))
+    (λ t. let l : b % 16 + (1 - c) ≤ a % 16 = ltb-false _ _ t in
+    let o : s / 16 ≡ a / 16 + d / 16 + 1 = omega arith in
+    let p : carriesIn s a d / 16 % 2 ≡ 1 = carry-in s a d 1 (omega arith) o in
+    let q : taken k (carriesIn s a d / 16 / 16) + nibbleBorrows k (a / 16) (b / 16) 0 ≡ each 1 k = rw (four-down s a d) (borrow-chain k (s / 16) (a / 16) (b / 16) (d / 16) 1 (omega arith) (omega arith) o) in
+    rw p (omega arith))
 
-making-evens : (h a b : ℕ) → evensMaking h a b + evensMaking h (a / 16) (b / 16) * 16 ≡ making h 8 a b
-unfolding making makes
-making-evens h a b =
-    rw (down-6 (a / 2 ^ 4), down-6 (b / 2 ^ 4), down-6 a, down-6 b, down-4 (a / 2 ^ 4), down-4 (b / 2 ^ 4), down-4 a, down-4 b, down-2 (a / 2 ^ 4), down-2 (b / 2 ^ 4), down-2 a, down-2 b)
-    (shape (at a b) (at (a / 16) (b / 16)) (at (a / 2 ^ 8) (b / 2 ^ 8)) (at (a / 16 / 2 ^ 8) (b / 16 / 2 ^ 8)) (at (a / 2 ^ 16) (b / 2 ^ 16)) (at (a / 16 / 2 ^ 16) (b / 16 / 2 ^ 16)) (at (a / 2 ^ 24) (b / 2 ^ 24)) (at (a / 16 / 2 ^ 24) (b / 16 / 2 ^ 24)))
+-- ---- carries: a nibble carries where the binary sum does, by o, or where what is left of its sum does with six more, by i
+carry-digit : (x y c j o r i : ℕ) → x < 16 → y < 16 → c + j < 2 → x + y + c ≡ 16 * o + r → r < 16 → i ≡ (r - 8 * min (r / 8) o + 6 + j) / 16 → o + i ≡ flag (ltb 9 (x + y + (c + j)))
+carry-digit x y c j o r i hx hy h e l f =
+    by-test (λ (t : ℕ). o + i ≡ t) (ltb 9 (x + y + (c + j)))
+    (λ t. let g : 9 < x + y + (c + j) = ltb-true _ _ t in omega arith)
+    (λ t. let g : x + y + (c + j) ≤ 9 = ltb-false _ _ t in omega arith)
+
+-- what is left of a sum in 64 bits
+abbrev pub rest : ℕ → ℕ → ℕ → ℕ
+rest a b c = bitAnd (a + b + c) ((2 ^ 64 - 1) - bitAnd (carriesIn (a + b + c) a b / 2 ^ 1) 0x8888_8888)
+
+-- sixes are even
+even : (k : ℕ) → each 6 k % 2 ≡ 0
+unfolding each
+even zero = refl
+even (suc k) = omega (arith, even k)
+
+-- v is what is left of the sum s, and u that with six more in each nibble and j below
+carry-chain : (k s a b c j v u : ℕ) → c + j < 2 → s ≡ a + b + c → v + cleared k s (carriesIn s a b) ≡ s → u ≡ v + each 6 k + j
+    → taken k (bitOr (bitXor u v) (carriesIn s a b) / 16) ≡ nibbleCarries k a b (c + j)
+unfolding taken nibbleCarries each
+carry-chain zero s a b c j v u h e f g = refl
+carry-chain (suc k) s a b c j v u h e f g =
+    let x : ℕ = carriesIn s a b in
+    let o : ℕ = (a % 16 + b % 16 + c) / 16 in
+    let i : ℕ = (v % 16 + 6 + j) / 16 in
+    let (ho, so, sr) = binary s a b c e (omega arith) in
+    let ui : u / 16 ≡ v / 16 + each 6 k + i = sixes u v (each 6 k) j g in
+    let p : x / 16 % 2 ≡ o = carry-in s a b o ho so in
+    let w : v + (8 * min (s / 8 % 2) o + 16 * cleared k (s / 16) (x / 16)) ≡ s = rw (← p, ← cleared-suc k s x) f in
+    let (high, low) = left s v o (cleared k (s / 16) (x / 16)) w (and-le-l (s / 16) (bitAnd (x / 16 / 2 ^ 1) (each 8 k))) in
+    let t : o + i ≡ flag (ltb 9 (a % 16 + b % 16 + (c + j))) = carry-digit (a % 16) (b % 16) c j o (s % 16) i (mod-lt a (lit< tt)) (mod-lt b (lit< tt)) h sr (mod-lt s (lit< tt)) (ap (λ (y : ℕ). (y + 6 + j) / 16) low) in
+    let l : o + i < 2 = rw t (flag-lt (ltb 9 (a % 16 + b % 16 + (c + j)))) in
+    rw (← t)
+    (ap₂ (λ (y z : ℕ). y + 16 * z)
+    (bit-or 4 (bitXor u v) x ∙ ap₂ max (bit-xor 4 u v ∙ six (u / 16) (v / 16) (each 6 k) o i l (even k) ui) p ∙ either o i l)
+    (ap (λ (y : ℕ). taken k (y / 16)) (or-shr (bitXor u v) x 4 ∙ ap₂ bitOr (xor-shr u v 4) (four-down s a b))
+    ∙ carry-chain k (s / 16) (a / 16) (b / 16) o i (v / 16) (u / 16) l so (rw (← four-down s a b) high) ui))
   where
-    shape : (p q r s t u v w : ℕ) → p + r * 2 ^ 8 + t * 2 ^ 16 + v * 2 ^ 24 + (q + s * 2 ^ 8 + u * 2 ^ 16 + w * 2 ^ 24) * 16 ≡ p + 16 * (q + 16 * (r + 16 * (s + 16 * (t + 16 * (u + 16 * (v + 16 * (w + 16 * 0)))))))
-    shape p q r s t u v w = omega arith
+    parts : (q r m w v : ℕ) → v + (8 * m + 16 * w) ≡ 16 * q + r → 8 * m ≤ r → r < 16 → w ≤ q → (v / 16 + w ≡ q) × (v % 16 ≡ r - 8 * m)
+    parts q r m w v e h l g = (omega arith, omega arith)
 
-    at : ℕ → ℕ → ℕ
-    at a b = flag (leb h (a % 16 + b % 16))
+    left : (s v o w : ℕ) → v + (8 * min (s / 8 % 2) o + 16 * w) ≡ s → w ≤ s / 16 → (v / 16 + w ≡ s / 16) × (v % 16 ≡ s % 16 - 8 * min (s % 16 / 8) o)
+    left s v o w e l =
+        let r : s / 8 % 2 ≡ s % 16 / 8 = omega arith in
+        parts (s / 16) (s % 16) (min (s % 16 / 8) o) w v (rw r at e ∙ omega arith) (omega arith) (omega arith) l
+
+    binary : (s a b c : ℕ) → s ≡ a + b + c → c < 2 → ((a % 16 + b % 16 + c) / 16 < 2) × (s / 16 ≡ a / 16 + b / 16 + (a % 16 + b % 16 + c) / 16) × (a % 16 + b % 16 + c ≡ 16 * ((a % 16 + b % 16 + c) / 16) + s % 16)
+    binary s a b c e h = (omega arith, omega arith, omega arith)
+
+    sixes : (u v y j : ℕ) → u ≡ v + (6 + 16 * y) + j → u / 16 ≡ v / 16 + y + (v % 16 + 6 + j) / 16
+    sixes u v y j e = omega arith
+
+    six : (u v y o i : ℕ) → o + i < 2 → y % 2 ≡ 0 → u ≡ v + y + i → (u % 2 + v % 2) % 2 ≡ i
+    six u v y o i h e f = omega arith
+
+    either : (o i : ℕ) → o + i < 2 → max i o ≡ o + i
+    either o i h = omega arith
 
 -- ---- what the code works out
-pub borrows-read : (d a b w : ℕ) → w < 2 → d + b + w ≡ a + 2 ^ 36 → bitsTaken (bitXor (bitXor d a) b) ≡ nibbleBorrows 8 a b w
-borrows-read d a b w h e = taken-eight (bitXor (bitXor d a) b) ∙ taken-xor 8 d a b ∙ borrow-chain 8 d a b w h e
+pub borrows-read : (a b c : ℕ) → b < 2 ^ 32 → c < 2 → 0x1111_1111 - bitAnd (carriesIn (a + notOf b + c) a (notOf b) / 2 ^ 4) 0x1111_1111 ≡ nibbleBorrows 8 a b (1 - c)
+unfolding each
+borrows-read a b c hb hc =
+    let x : ℕ = carriesIn (a + notOf b + c) a (notOf b) in
+    let e : taken 8 (x / 16) + nibbleBorrows 8 a b (1 - c) ≡ 0x1111_1111 = borrow-chain 8 (a + notOf b + c) a b (notOf b) c hc (omega arith) refl in
+    rw (ones-law 8 (x / 16)) (omega arith)
 
-pub carries-read : (p q a b c : ℕ) → c < 2 → p ≡ evensMaking 9 a b + evensMaking 9 (a / 16) (b / 16) * 16 → q ≡ evensMaking 10 a b + evensMaking 10 (a / 16) (b / 16) * 16
-    → bitsTaken (bitXor (bitXor (p * 15 + q + c) p) q) ≡ nibbleCarries 8 a b c
-carries-read p q a b c h e f =
-    taken-eight (bitXor (bitXor (p * 15 + q + c) p) q)
-    ∙ taken-xor 8 (p * 15 + q + c) p q
-    ∙ ap₂ (λ (x y : ℕ). apart 8 (x * 15 + y + c) x y) (e ∙ making-evens 9 a b) (f ∙ making-evens 10 a b)
-    ∙ carry-chain 8 (making 9 8 a b * 15 + making 10 8 a b + c) a b c h (omega arith)
-
--- ---- a mask that repeats in four bytes
-and-byte : (x q m : ℕ) → m < 2 ^ 8 → bitAnd x (q * 2 ^ 8 + m) ≡ bitAnd (x / 2 ^ 8) q * 2 ^ 8 + bitAnd (x % 2 ^ 8) m
-and-byte x q m h = ap (λ (y : ℕ). bitAnd y (q * 2 ^ 8 + m)) (sym (split x 8)) ∙ and-block 8 (x / 2 ^ 8) q (x % 2 ^ 8) m (mod-lt x (pow-pos 8)) h
-
-and-bytes : (x m : ℕ) → m < 2 ^ 8
-    → bitAnd x (m + m * 2 ^ 8 + m * 2 ^ 16 + m * 2 ^ 24) ≡ bitAnd (x % 2 ^ 8) m + bitAnd (x / 2 ^ 8 % 2 ^ 8) m * 2 ^ 8 + bitAnd (x / 2 ^ 16 % 2 ^ 8) m * 2 ^ 16 + bitAnd (x / 2 ^ 24 % 2 ^ 8) m * 2 ^ 24
-and-bytes x m h =
-    ap (bitAnd x) (shape m)
-    ∙ and-byte x (((0 * 2 ^ 8 + m) * 2 ^ 8 + m) * 2 ^ 8 + m) m h
-    ∙ rw (and-byte (x / 2 ^ 8) ((0 * 2 ^ 8 + m) * 2 ^ 8 + m) m h, shr-shr x 8 8, and-byte (x / 2 ^ 16) (0 * 2 ^ 8 + m) m h, shr-shr x 16 8, and-byte (x / 2 ^ 24) 0 m h, and-zero-r)
-    (sum (bitAnd (x % 2 ^ 8) m) (bitAnd (x / 2 ^ 8 % 2 ^ 8) m) (bitAnd (x / 2 ^ 16 % 2 ^ 8) m) (bitAnd (x / 2 ^ 24 % 2 ^ 8) m))
-  where
-    shape : (m : ℕ) → m + m * 2 ^ 8 + m * 2 ^ 16 + m * 2 ^ 24 ≡ (((0 * 2 ^ 8 + m) * 2 ^ 8 + m) * 2 ^ 8 + m) * 2 ^ 8 + m
-    shape m = omega arith
-
-    sum : (p q r s : ℕ) → (((0 * 2 ^ 8 + s) * 2 ^ 8 + r) * 2 ^ 8 + q) * 2 ^ 8 + p ≡ p + q * 2 ^ 8 + r * 2 ^ 16 + s * 2 ^ 24
-    sum p q r s = omega arith
-
-pub evens-law : (x : ℕ) → bitAnd x 0x0f0f_0f0f ≡ x % 16 + x / 2 ^ 8 % 16 * 2 ^ 8 + x / 2 ^ 16 % 16 * 2 ^ 16 + x / 2 ^ 24 % 16 * 2 ^ 24
-evens-law x = and-bytes x 15 (omega arith) ∙ rw (and-mask (x % 2 ^ 8) 4, and-mask (x / 2 ^ 8 % 2 ^ 8) 4, and-mask (x / 2 ^ 16 % 2 ^ 8) 4, and-mask (x / 2 ^ 24 % 2 ^ 8) 4, low x, low (x / 2 ^ 8), low (x / 2 ^ 16), low (x / 2 ^ 24))
-  where
-    low : (y : ℕ) → y % 2 ^ 8 % 2 ^ 4 ≡ y % 16
-    low y = omega arith
-
--- the low bit of each byte, and the one above it
-ones-law : (x : ℕ) → bitAnd x 0x0101_0101 ≡ x % 2 + x / 2 ^ 8 % 2 * 2 ^ 8 + x / 2 ^ 16 % 2 * 2 ^ 16 + x / 2 ^ 24 % 2 * 2 ^ 24
-ones-law x = and-bytes x 1 (omega arith) ∙ rw (and-mask (x % 2 ^ 8) 1, and-mask (x / 2 ^ 8 % 2 ^ 8) 1, and-mask (x / 2 ^ 16 % 2 ^ 8) 1, and-mask (x / 2 ^ 24 % 2 ^ 8) 1, low x, low (x / 2 ^ 8), low (x / 2 ^ 16), low (x / 2 ^ 24))
-  where
-    low : (y : ℕ) → y % 2 ^ 8 % 2 ^ 1 ≡ y % 2
-    low y = omega arith
-
-twos-law : (x : ℕ) → bitAnd x 0x0202_0202 ≡ x / 2 % 2 * 2 + x / 2 ^ 8 / 2 % 2 * 2 * 2 ^ 8 + x / 2 ^ 16 / 2 % 2 * 2 * 2 ^ 16 + x / 2 ^ 24 / 2 % 2 * 2 * 2 ^ 24
-twos-law x =
-    and-bytes x 2 (omega arith)
-    ∙ rw (and-bit 1 (x % 2 ^ 8), and-bit 1 (x / 2 ^ 8 % 2 ^ 8), and-bit 1 (x / 2 ^ 16 % 2 ^ 8), and-bit 1 (x / 2 ^ 24 % 2 ^ 8), second x, second (x / 2 ^ 8), second (x / 2 ^ 16), second (x / 2 ^ 24))
-  where
-    second : (y : ℕ) → y % 2 ^ 8 / 2 % 2 ≡ y / 2 % 2
-    second y = omega arith
-
-pub tops-law : (x : ℕ) → bitAnd (x / 2 ^ 7) 0x0101_0101 ≡ x / 2 ^ 7 % 2 + x / 2 ^ 15 % 2 * 2 ^ 8 + x / 2 ^ 23 % 2 * 2 ^ 16 + x / 2 ^ 31 % 2 * 2 ^ 24
-tops-law x = ones-law (x / 2 ^ 7) ∙ rw (shr-shr x 7 8, shr-shr x 7 16, shr-shr x 7 24)
-
--- two bits in each of four bytes, side by side by one product
-product : (p q r s : ℕ) → p < 4 → q < 4 → r < 4 → s < 4 → (p + q * 2 ^ 8 + r * 2 ^ 16 + s * 2 ^ 24) * 0x4_1041 / 2 ^ 18 % 256 ≡ p + q * 4 + r * 16 + s * 64
-product p q r s hp hq hr hs =
-    ap (λ (x : ℕ). x / 2 ^ 18 % 256) (shape p q r s)
-    ∙ ap (λ (x : ℕ). x % 256) (digits-div ((q + r * 0x104 + s * 0x1_0410) * 256 + (p + q * 4 + r * 16 + s * 64)) (omega arith))
-    ∙ digits-mod (q + r * 0x104 + s * 0x1_0410) (omega arith)
-  where
-    shape : (p q r s : ℕ) → (p + q * 2 ^ 8 + r * 2 ^ 16 + s * 2 ^ 24) * 0x4_1041 ≡ ((q + r * 0x104 + s * 0x1_0410) * 256 + (p + q * 4 + r * 16 + s * 64)) * 2 ^ 18 + (p * 0x1041 + q * 0x4100 + r * 0x1_0000)
-    shape p q r s = omega arith
-
--- the pairs of `gather`, and what becomes of them
-abbrev pub pairs : ℕ → ℕ
-pairs x = bitAnd (x / 2 ^ 4) 0x0101_0101 + bitAnd (x / 2 ^ 7) 0x0202_0202
-
-module _ (x : ℕ) where
-  at : ℕ → ℕ
-  at j = x / 2 ^ j % 2
-
-  at-lt : (j : ℕ) → at j < 2
-  unfolding at
-  at-lt j = mod-lt (x / 2 ^ j) (omega arith)
-
-  pairs-law : pairs x ≡ (at 4 + at 8 * 2) + (at 12 + at 16 * 2) * 2 ^ 8 + (at 20 + at 24 * 2) * 2 ^ 16 + (at 28 + at 32 * 2) * 2 ^ 24
-  unfolding at
-  pairs-law =
-      ap₂ (λ (p q : ℕ). p + q) (ones-law (x / 2 ^ 4)) (twos-law (x / 2 ^ 7))
-      ∙ rw (shr-shr x 4 8, shr-shr x 4 16, shr-shr x 4 24, shr-shr x 7 8, shr-shr x 7 16, shr-shr x 7 24, shr-shr x 7 1, shr-shr x 15 1, shr-shr x 23 1, shr-shr x 31 1)
-      (shape (at 4) (at 8) (at 12) (at 16) (at 20) (at 24) (at 28) (at 32))
-    where
-      shape : (a b c d e f g h : ℕ) → (a + c * 2 ^ 8 + e * 2 ^ 16 + g * 2 ^ 24) + (b * 2 + d * 2 * 2 ^ 8 + f * 2 * 2 ^ 16 + h * 2 * 2 ^ 24) ≡ (a + b * 2) + (c + d * 2) * 2 ^ 8 + (e + f * 2) * 2 ^ 16 + (g + h * 2) * 2 ^ 24
-      shape a b c d e f g h = omega arith
-
-  two : (i j : ℕ) → at i + at j * 2 < 4
-  two i j = omega (arith, at-lt i, at-lt j)
-
-  pub pairs-lt : pairs x < 2 ^ 26
-  pairs-lt = omega (arith, pairs-law, two 4 8, two 12 16, two 20 24, two 28 32)
-
-  pub gather-law : pairs x * 0x4_1041 / 2 ^ 18 % 256 ≡ bitsTaken x
-  unfolding at
-  gather-law =
-      ap (λ (y : ℕ). y * 0x4_1041 / 2 ^ 18 % 256) pairs-law
-      ∙ product (at 4 + at 8 * 2) (at 12 + at 16 * 2) (at 20 + at 24 * 2) (at 28 + at 32 * 2) (two 4 8) (two 12 16) (two 20 24) (two 28 32)
-      ∙ shape (at 4) (at 8) (at 12) (at 16) (at 20) (at 24) (at 28) (at 32)
-    where
-      shape : (a b c d e f g h : ℕ) → a + b * 2 + (c + d * 2) * 4 + (e + f * 2) * 16 + (g + h * 2) * 64 ≡ a + b * 2 + c * 4 + d * 8 + e * 16 + f * 32 + g * 64 + h * 128
-      shape a b c d e f g h = omega arith
-
--- ---- digit sums that reach k, one in each byte
-abbrev pub evensOf : ℕ → ℕ
-evensOf x = x % 16 + x / 2 ^ 8 % 16 * 2 ^ 8 + x / 2 ^ 16 % 16 * 2 ^ 16 + x / 2 ^ 24 % 16 * 2 ^ 24
-
-abbrev pub topsOf : ℕ → ℕ
-topsOf x = x / 2 ^ 7 % 2 + x / 2 ^ 15 % 2 * 2 ^ 8 + x / 2 ^ 23 % 2 * 2 ^ 16 + x / 2 ^ 31 % 2 * 2 ^ 24
-
--- the top bit of a byte with others above and below
-top-bit : (hi y lo x j : ℕ) → lo < 2 ^ j → y < 256 → x ≡ (hi * 256 + y) * 2 ^ j + lo → x / 2 ^ (j + 7) % 2 ≡ y / 128
-top-bit hi y lo x j h l e =
-    ap (λ (z : ℕ). z % 2) (sym (shr-shr x j 7))
-    ∙ ap (λ (z : ℕ). z / 2 ^ 7 % 2) (ap (λ (z : ℕ). z / 2 ^ j) e ∙ digits-div (hi * 256 + y) h)
-    ∙ omega arith
-
-top-bits : (p q r s x : ℕ) → p < 256 → q < 256 → r < 256 → s < 256 → x ≡ p + q * 2 ^ 8 + r * 2 ^ 16 + s * 2 ^ 24
-    → topsOf x ≡ p / 128 + q / 128 * 2 ^ 8 + r / 128 * 2 ^ 16 + s / 128 * 2 ^ 24
-top-bits p q r s x hp hq hr hs e =
-    rw (top-bit (q + r * 2 ^ 8 + s * 2 ^ 16) p 0 x 0 (omega arith) hp (omega arith), top-bit (r + s * 2 ^ 8) q p x 8 (omega arith) hq (omega arith), top-bit s r (p + q * 2 ^ 8) x 16 (omega arith) hr (omega arith), top-bit 0 s (p + q * 2 ^ 8 + r * 2 ^ 16) x 24 (omega arith) hs (omega arith))
-
-pub reaching-law : (k a b : ℕ) → k ≤ 128 → topsOf (evensOf a + evensOf b + (128 - k) * 0x0101_0101) ≡ evensMaking k a b
-reaching-law k a b h =
-    top-bits (byte a b) (byte (a / 2 ^ 8) (b / 2 ^ 8)) (byte (a / 2 ^ 16) (b / 2 ^ 16)) (byte (a / 2 ^ 24) (b / 2 ^ 24)) _ (small _ _) (small _ _) (small _ _) (small _ _)
-    (shape (a % 16) (b % 16) (a / 2 ^ 8 % 16) (b / 2 ^ 8 % 16) (a / 2 ^ 16 % 16) (b / 2 ^ 16 % 16) (a / 2 ^ 24 % 16) (b / 2 ^ 24 % 16) (128 - k))
-    ∙ rw (one a b, one (a / 2 ^ 8) (b / 2 ^ 8), one (a / 2 ^ 16) (b / 2 ^ 16), one (a / 2 ^ 24) (b / 2 ^ 24))
-  where
-    byte : ℕ → ℕ → ℕ
-    byte a b = a % 16 + b % 16 + (128 - k)
-
-    small : (a b : ℕ) → byte a b < 256
-    small a b = omega arith
-
-    one : (a b : ℕ) → (a % 16 + b % 16 + (128 - k)) / 128 ≡ flag (leb k (a % 16 + b % 16))
-    one a b = reach k (a % 16 + b % 16) h (omega arith)
-
-    shape : (a b c d e f g h k : ℕ) → (a + c * 2 ^ 8 + e * 2 ^ 16 + g * 2 ^ 24) + (b + d * 2 ^ 8 + f * 2 ^ 16 + h * 2 ^ 24) + k * 0x0101_0101 ≡ (a + b + k) + (c + d + k) * 2 ^ 8 + (e + f + k) * 2 ^ 16 + (g + h + k) * 2 ^ 24
-    shape a b c d e f g h k = omega arith
-
--- ---- the sixes of eight nibble bits
-pub sixes-law : (n : ℕ) → 6 * (n % 2 + n / 2 % 2 * 0x10 + n / 4 % 2 * 0x100 + n / 8 % 2 * 0x1000 + (n / 16 % 2 + n / 32 % 2 * 0x10 + n / 64 % 2 * 0x100 + n / 128 % 2 * 0x1000) * 0x1_0000) ≡ sixes 8 n
-unfolding sixes
-sixes-law n =
-    rw (shr-shr n 1 1, shr-shr n 2 1, shr-shr n 3 1, shr-shr n 4 1, shr-shr n 5 1, shr-shr n 6 1)
-    (shape (n % 2) (n / 2 % 2) (n / 4 % 2) (n / 8 % 2) (n / 16 % 2) (n / 32 % 2) (n / 64 % 2) (n / 128 % 2))
-  where
-    shape : (a b c d e f g h : ℕ) → 6 * (a + b * 0x10 + c * 0x100 + d * 0x1000 + (e + f * 0x10 + g * 0x100 + h * 0x1000) * 0x1_0000) ≡ 6 * a + 16 * (6 * b + 16 * (6 * c + 16 * (6 * d + 16 * (6 * e + 16 * (6 * f + 16 * (6 * g + 16 * (6 * h + 16 * 0)))))))
-    shape a b c d e f g h = omega arith
+pub carries-read : (a b c : ℕ) → a < 2 ^ 32 → b < 2 ^ 32 → c < 2
+    → bitAnd (bitOr (bitXor (rest a b c + 0x6666_6666) (rest a b c)) (carriesIn (a + b + c) a b) / 2 ^ 4) 0x1111_1111 ≡ nibbleCarries 8 a b c
+unfolding each
+carries-read a b c ha hb hc =
+    let s : ℕ = a + b + c in
+    let x : ℕ = carriesIn s a b in
+    let m : bitAnd (x / 2 ^ 1) 0x8888_8888 < 2 ^ 64 = lt-of-le-of-lt (and-le-r (x / 2 ^ 1) 0x8888_8888) (lit< tt) in
+    ones-law 8 (bitOr (bitXor (rest a b c + 0x6666_6666) (rest a b c)) x / 16)
+    ∙ carry-chain 8 s a b c 0 (rest a b c) (rest a b c + 0x6666_6666) (omega arith) refl (and-compl 64 s (bitAnd (x / 2 ^ 1) 0x8888_8888) (omega arith) m) (sym (add-zero _))
+    ∙ ap (nibbleCarries 8 a b) (add-zero c)

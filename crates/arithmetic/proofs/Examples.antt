@@ -6,8 +6,8 @@ use Rattle.bits.specs.Bits.{zeroOf, merged, carryOf, overflowOf}
 use Rattle.machine.specs.declared.Status.{Status}
 use Rattle.machine.specs.declared.Inputs.{Inputs}
 use Rattle.machine.specs.declared.Outputs.{Outputs}
-use Rattle.machine.specs.Status.{loaded, withC}
-use Rattle.arithmetic.specs.Nibbles.{nibbleCarries, nibbleBorrows, sixes}
+use Rattle.machine.specs.Status.{spreadOut, loaded, withC}
+use Rattle.arithmetic.specs.Nibbles.{nibbleCarries, nibbleBorrows}
 use Rattle.arithmetic.specs.Arithmetic.{sum, difference, INCR-A, ADD, ADDC, SUB}
 use Rattle.arithmetic.specs.Decimal.{sumCorrect, diffCorrect, SUM-CORR-A, DIFF-CORR-A}
 
@@ -46,24 +46,24 @@ abbrev pub worked : List Example
 worked =
     -- 4, 5, 7: 48 + 58, 45 + 55 and 428 + 578
     shows (total 0 0x48 0x58 .y) 0xa0
-    ∷ shows (total 0 0x48 0x58 .status .nibbles) 3
+    ∷ shows (total 0 0x48 0x58 .status .nibbles) 0x11
     ∷ shows (decimalTotal 0 0x48 0x58 .y) 0x106
     ∷ shows (total 0 0x45 0x55 .y) 0x9a
-    ∷ shows (total 0 0x45 0x55 .status .nibbles) 3
+    ∷ shows (total 0 0x45 0x55 .status .nibbles) 0x11
     ∷ shows (decimalTotal 0 0x45 0x55 .y) 0x100
     ∷ shows (total 0 0x428 0x578 .y) 0x9a0
-    ∷ shows (total 0 0x428 0x578 .status .nibbles) 7
+    ∷ shows (total 0 0x428 0x578 .status .nibbles) 0x111
     ∷ shows (decimalTotal 0 0x428 0x578 .y) 0x1006
     -- 8: 35 + 64 and a carry
     ∷ shows (total 1 0x35 0x64 .y) 0x9a
-    ∷ shows (total 1 0x35 0x64 .status .nibbles) 3
+    ∷ shows (total 1 0x35 0x64 .status .nibbles) 0x11
     ∷ shows (decimalTotal 1 0x35 0x64 .y) 0x100
     -- 11, 13: 5 - 3 and 3 - 5, which is 98, the ten's complement of 2; C is a carry, and a borrow in borrow mode
     ∷ shows (less 0 0x05 0x03 .y) 0x02
     ∷ shows (decimalLess 0 0x05 0x03 .y) 0x02
     ∷ shows (decimalLess 0 0x05 0x03 .status .c) 1
     ∷ shows (less 0 0x03 0x05 .y) 0xfe
-    ∷ shows (less 0 0x03 0x05 .status .nibbles) 0xff
+    ∷ shows (less 0 0x03 0x05 .status .nibbles) 0x1111_1111
     ∷ shows (decimalLess 0 0x03 0x05 .y) 0x98
     ∷ shows (decimalLess 0 0x03 0x05 .status .c) 0
     ∷ shows (decimalLess 1 0x03 0x05 .status .c) 1
@@ -86,5 +86,5 @@ allStated [] = []
 allStated (e ∷ es) = e .stated ∷ allStated es
 
 pub worked-examples : allGiven worked ≡ allStated worked
-unfolding loaded zeroOf merged carryOf overflowOf nibbleCarries nibbleBorrows sixes sum difference sumCorrect diffCorrect
+unfolding spreadOut loaded zeroOf merged carryOf overflowOf nibbleCarries nibbleBorrows sum difference sumCorrect diffCorrect
 worked-examples = refl

@@ -1,20 +1,23 @@
 -- The decimal corrections (table 10-2, appendix A), in opcode order. The nibble bits themselves are not affected; Z and N are of the selected
 -- bytes, unselected bytes are the source's. Assumes nothing.
 use mathlib.Core.List.{List, [], _∷_}
-use Prim.Native.Nat.{ℕ, _+_, _-_, _/_}
+use Prim.Native.Nat.{ℕ, _+_, _-_, _*_}
 use Rattle.bits.specs.Bits.{xor, bitOf, merged, notOf}
 use Rattle.machine.specs.declared.Inputs.{Inputs}
 use Rattle.machine.specs.declared.Outputs.{Outputs}
 use Rattle.machine.specs.Status.{withC, withV}
 use Rattle.machine.specs.Inputs.{bitsOf, leaving, zeroSign}
-use Rattle.arithmetic.specs.Nibbles.{sixes}
 
 -- the most significant nibble bit of the selected bytes, NC7, NC5, NC3 or NC1, and the one below it
 abbrev pub topNibble : Inputs → ℕ
-topNibble x = bitOf (bitsOf x / 4 - 1) (x .status .nibbles)
+topNibble x = bitOf (bitsOf x - 4) (x .status .nibbles)
 
 abbrev pub nextNibble : Inputs → ℕ
-nextNibble x = bitOf (bitsOf x / 4 - 2) (x .status .nibbles)
+nextNibble x = bitOf (bitsOf x - 8) (x .status .nibbles)
+
+-- the correction word: a 6 in each nibble whose bit is set
+abbrev pub correction : Inputs → ℕ
+correction x = 6 * x .status .nibbles
 
 -- r in the selected bytes; the given C; V is the EX-OR of the two most significant nibble bits
 abbrev pub corrected : Inputs → ℕ → ℕ → ℕ → Outputs
@@ -23,11 +26,11 @@ corrected x r c s =
 
 -- The correction word is added to the operand. C is the most significant nibble carry.
 unfoldable pub sumCorrect : Inputs → ℕ → Outputs
-sumCorrect x s = corrected x (s + sixes 8 (x .status .nibbles)) (topNibble x) s
+sumCorrect x s = corrected x (s + correction x) (topNibble x) s
 
 -- The correction word is subtracted from the operand. C is the EX-NOR of the most significant nibble borrow and borrow mode.
 unfoldable pub diffCorrect : Inputs → ℕ → Outputs
-diffCorrect x s = corrected x (s + notOf (sixes 8 (x .status .nibbles)) + 1) (1 - xor (topNibble x) (x .borrow)) s
+diffCorrect x s = corrected x (s + notOf (correction x) + 1) (1 - xor (topNibble x) (x .borrow)) s
 
 -- 48
 abbrev pub SUM-CORR-A : Inputs → Outputs

@@ -1,6 +1,6 @@
 // Arithmetic instructions (tables 10-1 and 10-2, appendix A). Public for the chip's dispatch, which hands over what stands at the chip and
 // the source that the mnemonic names.
-mod nibbles; // the nibble bits and the correction word
+mod nibbles; // the nibble bits
 
 use machine::Inputs;
 use machine::Outputs;
@@ -9,7 +9,7 @@ ghost use Prim.Native.Nat.{_+_, _%_, _^_, _<_};
 ghost use lib.ListN.{getD};
 ghost use Rattle.machine.specs.Inputs.{Sound};
 ghost use Rattle.arithmetic.specs.Arithmetic.{added, sum, difference, increment, decrement, negate, ADD, ADDC, SUB, SUBC, SUBR, SUBRC};
-ghost use Rattle.arithmetic.specs.Decimal.{corrected, topNibble, sumCorrect, diffCorrect, decimals, DIFF-CORR-B};
+ghost use Rattle.arithmetic.specs.Decimal.{corrected, topNibble, correction, sumCorrect, diffCorrect, decimals, DIFF-CORR-B};
 
 // What a sum p + r + c leaves, from its wrapped value s: cut to the selected bytes, C and V worked out apart. C is inverted where i is 1.
 fn added(x: Inputs, p: u32, r: u32, c: u32, i: u32, s: u32, nibbles: u32, u: u32) -> Outputs
@@ -17,11 +17,12 @@ fn added(x: Inputs, p: u32, r: u32, c: u32, i: u32, s: u32, nibbles: u32, u: u32
     ensures { λ o. ⌜ o ≡ added x p r c i nibbles u ⌝ }
 {
     let n = x.bits();
-    let mut status = x.status;
+    let exact = bits::sum(p, r, c);
+    let mut status = x.held();
     status.z = bits::is_zero(s, n);
     status.n = bits::sign(s, n);
-    status.c = (bits::carry(p, r, c, s, n) + i) % 2;
-    status.v = bits::overflow(p, r, c, s, n);
+    status.c = (bits::carry(p, r, c, exact, n) + i) % 2;
+    status.v = bits::overflow(p, r, c, exact, n);
     status.nibbles = nibbles;
     Outputs {
         y: bits::merge(s, u, n),
@@ -36,7 +37,8 @@ fn sum(x: Inputs, p: u32, r: u32, c: u32, i: u32, u: u32) -> Outputs
     ensures { λ o. ⌜ o ≡ sum x p r c i u ⌝ }
 {
     let s = bits::add(p, r, c);
-    added(x, p, r, c, i, s, nibbles::nibble_carries(p, r, c), u)
+    let nibbles = nibbles::nibble_carries(p, r, c, bits::sum(p, r, c));
+    added(x, p, r, c, i, s, nibbles, u)
 }
 
 // p - r where c is 1, and one less where it is 0.
@@ -45,16 +47,8 @@ fn difference(x: Inputs, p: u32, r: u32, c: u32, u: u32) -> Outputs
     ensures { λ o. ⌜ o ≡ difference x p r c u ⌝ }
 {
     let s = bits::subtract(p, r, c);
-    added(
-        x,
-        p,
-        !r,
-        c,
-        x.borrow,
-        s,
-        nibbles::nibble_borrows(p, r, 1 - c),
-        u,
-    )
+    let nibbles = nibbles::nibble_borrows(p, r, c, bits::sum(p, !r, c));
+    added(x, p, !r, c, x.borrow, s, nibbles, u)
 }
 
 // INCR-A to INCR4-B
@@ -130,11 +124,11 @@ fn corrected(x: Inputs, r: u32, c: u32, s: u32) -> Outputs
     ensures { λ o. ⌜ o ≡ corrected x r c s ⌝ }
 {
     let n = x.bits();
-    let mut status = x.status;
+    let mut status = x.held();
     status.z = bits::is_zero(r, n);
     status.n = bits::sign(r, n);
     status.c = c;
-    status.v = (top_nibble(x) + bits::bit(n / 4 - 2, x.status.nibbles)) % 2;
+    status.v = (top_nibble(x) + bits::bit(n - 8, x.status.nibbles)) % 2;
     Outputs {
         y: bits::merge(r, s, n),
         q: x.q,
@@ -147,7 +141,15 @@ fn top_nibble(x: Inputs) -> u32
     requires { ⌜ Sound x ⌝ }
     ensures { λ f. ⌜ (f ≡ topNibble x) × (f < 2) ⌝ }
 {
-    bits::bit(x.bits() / 4 - 1, x.status.nibbles)
+    bits::bit(x.bits() - 4, x.status.nibbles)
+}
+
+// The correction word: a 6 in each nibble whose bit is set.
+fn correction(x: Inputs) -> u32
+    requires { ⌜ Sound x ⌝ }
+    ensures { λ r. ⌜ r ≡ correction x ⌝ }
+{
+    6 * x.status.nibbles
 }
 
 // SUM-CORR-A, SUM-CORR-B
@@ -155,7 +157,7 @@ fn sum_correct(x: Inputs, s: u32) -> Outputs
     requires { ⌜ Sound x ⌝ }
     ensures { λ o. ⌜ o ≡ sumCorrect x s ⌝ }
 {
-    let r = bits::add(s, nibbles::sixes(x.status.nibbles), 0);
+    let r = bits::add(s, correction(x), 0);
     corrected(x, r, top_nibble(x), s)
 }
 
@@ -164,7 +166,7 @@ fn diff_correct(x: Inputs, s: u32) -> Outputs
     requires { ⌜ Sound x ⌝ }
     ensures { λ o. ⌜ o ≡ diffCorrect x s ⌝ }
 {
-    let r = bits::subtract(s, nibbles::sixes(x.status.nibbles), 1);
+    let r = bits::subtract(s, correction(x), 1);
     corrected(x, r, 1 - (top_nibble(x) + x.borrow) % 2, s)
 }
 

@@ -2,14 +2,14 @@
 -- operands and the wrapped sum. Assumes nothing.
 use mathlib.Core.Path.{_≡_, refl, sym, ap, ap₂, _∙_, subst}
 use Prim.Native.Nat.{ℕ, suc, _+_, _-_, _*_, _/_, _%_, _^_, _≤_, _<_, min, max}
-use native.Mathlib.Nat.{mod-lt}
+use native.Mathlib.Nat.{mod-lt, mod-eq-of-lt, mul-lt-mul-of-pos-right, lt-of-lt-of-le}
 use native.Mathlib.Omega.{arith}
 use lib.Arith.{digits-div}
-use lib.Pow.{pow-pos, split, mod-pow-add, shr-shr}
-use lib.Bits.{bitAnd, bitOr, bitXor}
-use Rattle.bits.specs.Bits.{bitOf, notOf, carryOf, overflowOf, xor}
+use lib.Pow.{pow-pos, pow-add, pow-mono, split, mod-pow-add, shr-shr, shl-shr}
+use lib.Bits.{bitXor, xor-lt}
+use Rattle.bits.specs.Bits.{bitOf, carryOf, overflowOf, xor}
 use Rattle.bits.proofs.Laws.{carry-lt, bit-wrap}
-use Rattle.bits.proofs.BitByBit.{bit-lt, by-flag, bit-and, bit-or, bit-xor, bit-not}
+use Rattle.bits.proofs.BitByBit.{bit-xor}
 
 -- the low bits add up to the carry out of them, above what stays
 low-sum : (i a b c : ℕ) → (r : ℕ) × (r < 2 ^ i) × (a % 2 ^ i + b % 2 ^ i + c ≡ carryOf i a b c * 2 ^ i + r)
@@ -54,52 +54,46 @@ full-carry i a b c =
     one-plus : 1 + i ≡ suc i
     one-plus = omega arith
 
--- three flags at once
-by-flags : (P : ℕ → ℕ → ℕ → Type 0) → P 0 0 0 → P 0 0 1 → P 0 1 0 → P 0 1 1 → P 1 0 0 → P 1 0 1 → P 1 1 0 → P 1 1 1
-    → (x y k : ℕ) → x < 2 → y < 2 → k < 2 → P x y k
-by-flags P p₀ p₁ p₂ p₃ p₄ p₅ p₆ p₇ x y k hx hy hk =
-    by-flag (λ (x : ℕ). P x y k)
-    (by-flag (λ (y : ℕ). P 0 y k) (by-flag (P 0 0) p₀ p₁ k hk) (by-flag (P 0 1) p₂ p₃ k hk) y hy)
-    (by-flag (λ (y : ℕ). P 1 y k) (by-flag (P 1 0) p₄ p₅ k hk) (by-flag (P 1 1) p₆ p₇ k hk) y hy)
-    x hx
+-- a sum differs from its operands at bit i where a carry came in
+module _ (i a b c : ℕ) (hc : c < 2) where
+  abbrev pub carries : ℕ
+  carries = bitXor (bitXor (a + b + c) a) b
 
--- the carry of three flags: where two agree, that one; else the complement of their sum
-carry-flags : (x y k : ℕ) → x < 2 → y < 2 → k < 2 → max (min x y) (min (max x y) (1 - (x + y + k) % 2)) ≡ (x + y + k) / 2
-carry-flags = by-flags (λ x y k. max (min x y) (min (max x y) (1 - (x + y + k) % 2)) ≡ (x + y + k) / 2) refl refl refl refl refl refl refl refl
+  pub carry-bit : bitOf i carries ≡ carryOf i a b c
+  carry-bit =
+      bit-xor i (bitXor (a + b + c) a) b
+      ∙ ap (λ (x : ℕ). (x + bitOf i b) % 2) (bit-xor i (a + b + c) a ∙ ap (λ (x : ℕ). (x + bitOf i a) % 2) (full-sum i a b c))
+      ∙ twice (bitOf i a) (bitOf i b) (carryOf i a b c) (carry-lt i a b c hc)
+    where
+      twice : (x y k : ℕ) → k < 2 → (((x + y + k) % 2 + x) % 2 + y) % 2 ≡ k
+      twice x y k h = omega arith
 
--- carry in and carry out differ where the sum is neither operand
-overflow-flags : (x y k : ℕ) → x < 2 → y < 2 → k < 2 → min ((x + (x + y + k) % 2) % 2) ((y + (x + y + k) % 2) % 2) ≡ (k + (x + y + k) / 2) % 2
-overflow-flags = by-flags (λ x y k. min ((x + (x + y + k) % 2) % 2) ((y + (x + y + k) % 2) % 2) ≡ (k + (x + y + k) / 2) % 2) refl refl refl refl refl refl refl refl
+-- and below 2 ^ 33
+pub carries-lt : (a b c : ℕ) → a < 2 ^ 32 → b < 2 ^ 32 → c < 2 → bitXor (bitXor (a + b + c) a) b < 2 ^ 33
+carries-lt a b c ha hb hc = xor-lt 33 (bitXor (a + b + c) a) b (xor-lt 33 (a + b + c) a (omega arith) (omega arith)) (omega arith)
 
-module _ (i a b c s : ℕ) (hi : i < 32) (hc : c < 2) (e : s ≡ (a + b + c) % 2 ^ 32) where
-  bit-s : bitOf i s ≡ (bitOf i a + bitOf i b + carryOf i a b c) % 2
-  bit-s = ap (bitOf i) e ∙ bit-wrap i (a + b + c) hi ∙ full-sum i a b c
+-- bit n, shifted up to bit 32 in 64 bits
+pub carry-read : (n a b c : ℕ) → 1 ≤ n → n ≤ 32 → a < 2 ^ 32 → b < 2 ^ 32 → c < 2
+    → bitXor (bitXor (a + b + c) a) b * 2 ^ (32 - n) % 2 ^ 64 / 2 ^ 32 % 2 ≡ carryOf n a b c
+carry-read n a b c h l ha hb hc =
+    let x : ℕ = bitXor (bitXor (a + b + c) a) b in
+    let e : (32 - n) + n ≡ 32 = omega arith in
+    let k : 33 + (32 - n) ≤ 64 = omega arith in
+    let w : x * 2 ^ (32 - n) < 2 ^ 64 =
+    lt-of-lt-of-le (mul-lt-mul-of-pos-right (carries-lt a b c ha hb hc) (pow-pos (32 - n)))
+    (subst (λ (y : ℕ). y ≤ 2 ^ 64) (pow-add 2 33 (32 - n)) (pow-mono k)) in
+    ap (λ (y : ℕ). y / 2 ^ 32 % 2) (mod-eq-of-lt w)
+    ∙ ap (λ (k : ℕ). x * 2 ^ (32 - n) / 2 ^ k % 2) (sym e)
+    ∙ ap (λ (y : ℕ). y % 2) (sym (shr-shr (x * 2 ^ (32 - n)) (32 - n) n) ∙ ap (λ (y : ℕ). y / 2 ^ n) (shl-shr x (32 - n)))
+    ∙ carry-bit n a b c hc
 
-  small : s < 2 ^ 32
-  small = subst (λ (x : ℕ). x < 2 ^ 32) (sym e) (mod-lt (a + b + c) (pow-pos 32))
-
-  pub carry-bits : bitOf i (bitOr (bitAnd a b) (bitAnd (bitOr a b) (notOf s))) ≡ carryOf (suc i) a b c
-  carry-bits =
-      bit-or i (bitAnd a b) (bitAnd (bitOr a b) (notOf s))
-      ∙ ap₂ max (bit-and i a b) (bit-and i (bitOr a b) (notOf s) ∙ ap₂ min (bit-or i a b) (bit-not i s hi small ∙ ap (λ (x : ℕ). 1 - x) bit-s))
-      ∙ carry-flags (bitOf i a) (bitOf i b) (carryOf i a b c) (bit-lt i a) (bit-lt i b) (carry-lt i a b c hc)
-      ∙ sym (full-carry i a b c)
-
-  pub overflow-bits : bitOf i (bitAnd (bitXor a s) (bitXor b s)) ≡ xor (carryOf i a b c) (carryOf (suc i) a b c)
-  overflow-bits =
-      bit-and i (bitXor a s) (bitXor b s)
-      ∙ ap₂ min (bit-xor i a s ∙ ap (λ (x : ℕ). (bitOf i a + x) % 2) bit-s) (bit-xor i b s ∙ ap (λ (x : ℕ). (bitOf i b + x) % 2) bit-s)
-      ∙ overflow-flags (bitOf i a) (bitOf i b) (carryOf i a b c) (bit-lt i a) (bit-lt i b) (carry-lt i a b c hc)
-      ∙ ap (λ (x : ℕ). (carryOf i a b c + x) % 2) (sym (full-carry i a b c))
-
--- at n selected bits
-pub carry-read : (n a b c s : ℕ) → 1 ≤ n → n ≤ 32 → c < 2 → s ≡ (a + b + c) % 2 ^ 32
-    → bitOf (n - 1) (bitOr (bitAnd a b) (bitAnd (bitOr a b) (notOf s))) ≡ carryOf n a b c
-carry-read n a b c s h l hc e =
-    carry-bits (n - 1) a b c s (omega arith) hc e ∙ ap (λ (k : ℕ). carryOf k a b c) (omega arith)
-
-pub overflow-read : (n a b c s : ℕ) → 1 ≤ n → n ≤ 32 → c < 2 → s ≡ (a + b + c) % 2 ^ 32
-    → bitOf (n - 1) (bitAnd (bitXor a s) (bitXor b s)) ≡ overflowOf n a b c
+-- the bits of two neighbours
+pub overflow-read : (n a b c : ℕ) → 1 ≤ n → n ≤ 32 → c < 2
+    → bitOf (n - 1) (bitXor (bitXor (bitXor (a + b + c) a) b) (bitXor (bitXor (a + b + c) a) b / 2 ^ 1) % 2 ^ 32) ≡ overflowOf n a b c
 unfolding overflowOf
-overflow-read n a b c s h l hc e =
-    overflow-bits (n - 1) a b c s (omega arith) hc e ∙ ap (λ (k : ℕ). xor (carryOf (n - 1) a b c) (carryOf k a b c)) (omega arith)
+overflow-read n a b c h l hc =
+    let x : ℕ = bitXor (bitXor (a + b + c) a) b in
+    let e : 1 + (n - 1) ≡ n = omega arith in
+    bit-wrap (n - 1) (bitXor x (x / 2 ^ 1)) (omega arith)
+    ∙ bit-xor (n - 1) x (x / 2 ^ 1)
+    ∙ ap₂ xor (carry-bit (n - 1) a b c hc) (ap (λ (y : ℕ). y % 2) (shr-shr x 1 (n - 1) ∙ ap (λ (k : ℕ). x / 2 ^ k) e) ∙ carry-bit n a b c hc)

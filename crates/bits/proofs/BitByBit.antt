@@ -19,6 +19,15 @@ by-flag P p₀ p₁ zero h = p₀
 by-flag P p₀ p₁ (suc zero) h = p₁
 by-flag P p₀ p₁ (suc (suc f)) h = absurd (omega arith)
 
+-- three flags at once
+pub by-flags : (P : ℕ → ℕ → ℕ → Type 0) → P 0 0 0 → P 0 0 1 → P 0 1 0 → P 0 1 1 → P 1 0 0 → P 1 0 1 → P 1 1 0 → P 1 1 1
+    → (x y k : ℕ) → x < 2 → y < 2 → k < 2 → P x y k
+by-flags P p₀ p₁ p₂ p₃ p₄ p₅ p₆ p₇ x y k hx hy hk =
+    by-flag (λ (x : ℕ). P x y k)
+    (by-flag (λ (y : ℕ). P 0 y k) (by-flag (P 0 0) p₀ p₁ k hk) (by-flag (P 0 1) p₂ p₃ k hk) y hy)
+    (by-flag (λ (y : ℕ). P 1 y k) (by-flag (P 1 0) p₄ p₅ k hk) (by-flag (P 1 1) p₆ p₇ k hk) y hy)
+    x hx
+
 low-of : (p q x : ℕ) → q < 2 → x ≡ p * 2 + q → x % 2 ≡ q
 low-of p q x h e = omega arith
 

@@ -60,6 +60,14 @@ pub fn sign(x: u32, n: u32) -> u32
     top(x, n) >> 31
 }
 
+// The top selected bit, in its place.
+pub fn sign_bit(x: u32, n: u32) -> u32
+    requires { ⌜ (1 ≤ n) × (n ≤ 32) ⌝ }
+    ensures { λ r. ⌜ r ≡ signOf n x * 2 ^ (n - 1) ⌝ }
+{
+    x & (1 << (n - 1))
+}
+
 pub fn is_zero(x: u32, n: u32) -> u32
     requires { ⌜ (1 ≤ n) × (n ≤ 32) ⌝ }
     ensures { λ r. ⌜ r ≡ zeroOf n x ⌝ }
@@ -90,21 +98,36 @@ pub fn subtract(a: u32, b: u32, c: u32) -> u32
     std::num::wrapping_sub_u32(std::num::wrapping_sub_u32(a, b), 1 - c)
 }
 
-// The carry out of the top selected bit of a + b + c, from that sum s: the operands' bits where they agree, else the
-// complement of the sum's.
-pub fn carry(a: u32, b: u32, c: u32, s: u32, n: u32) -> u32
-    requires { ⌜ (1 ≤ n) × (n ≤ 32) × (c < 2) × (s ≡ (a + b + c) % 2 ^ 32) ⌝ }
-    ensures { λ r. ⌜ r ≡ carryOf n a b c ⌝ }
+// The sum with its carry out of the data word, from which carry and overflow of any width can be read.
+pub fn sum(a: u32, b: u32, c: u32) -> u64
+    ensures { λ r. ⌜ r ≡ a + b + c ⌝ }
 {
-    sign((a & b) | ((a | b) & !s), n)
+    a as u64 + b as u64 + c as u64
 }
 
-// Its overflow: the sum's sign is that of neither operand.
-pub fn overflow(a: u32, b: u32, c: u32, s: u32, n: u32) -> u32
-    requires { ⌜ (1 ≤ n) × (n ≤ 32) × (c < 2) × (s ≡ (a + b + c) % 2 ^ 32) ⌝ }
+// The low 32 bits.
+pub fn low(s: u64) -> u32
+    ensures { λ r. ⌜ r ≡ s % 2 ^ 32 ⌝ }
+{
+    (s % 0x1_0000_0000) as u32
+}
+
+// The carry out of the top selected bit of a + b + c, from that sum s: it differs from its operands where a carry came in.
+pub fn carry(a: u32, b: u32, c: u32, s: u64, n: u32) -> u32
+    requires { ⌜ (1 ≤ n) × (n ≤ 32) × (c < 2) × (s ≡ a + b + c) ⌝ }
+    ensures { λ r. ⌜ r ≡ carryOf n a b c ⌝ }
+{
+    let carries = s ^ (a as u64) ^ (b as u64);
+    (((carries << (32 - n)) >> 32) % 2) as u32
+}
+
+// Its overflow: the carry into the top selected bit is not the carry out of it.
+pub fn overflow(a: u32, b: u32, c: u32, s: u64, n: u32) -> u32
+    requires { ⌜ (1 ≤ n) × (n ≤ 32) × (c < 2) × (s ≡ a + b + c) ⌝ }
     ensures { λ r. ⌜ r ≡ overflowOf n a b c ⌝ }
 {
-    sign((a ^ s) & (b ^ s), n)
+    let into = s ^ (a as u64) ^ (b as u64);
+    sign(low(into ^ (into >> 1)), n)
 }
 
 // A word shifted up by k, zeros below.

@@ -4,10 +4,10 @@ use mathlib.Core.List.{List, [], _∷_, _++_}
 use Prim.Native.Nat.{ℕ, zero, suc}
 use lib.Count.{leadingZeros}
 use Rattle.bits.specs.Bits.{zeroOf, merged, carryOf, overflowOf, rotatedUp, fieldMask, priorityOf}
-use Rattle.machine.specs.Status.{asRead, loaded}
+use Rattle.machine.specs.Status.{gathered, spreadOut, asRead, loaded}
 use Rattle.movement.specs.DataMovement.{PASS-STAT, loadStatus}
 use Rattle.movement.specs.Prioritize.{prioritize}
-use Rattle.arithmetic.specs.Nibbles.{nibbleCarries, sixes}
+use Rattle.arithmetic.specs.Nibbles.{nibbleCarries}
 use Rattle.arithmetic.specs.Arithmetic.{sum}
 use Rattle.arithmetic.specs.Decimal.{sumCorrect}
 use Rattle.multiply.specs.Multiply.{booth, partial, firstStep, step, UMULLAST}
@@ -118,5 +118,5 @@ allStated [] = []
 allStated (e ∷ es) = e .stated ∷ allStated es
 
 pub lettered-examples : allGiven lettered ≡ allStated lettered
-unfolding performOf stepOf execs readAt storeAt asRead loaded zeroOf merged carryOf overflowOf rotatedUp fieldMask priorityOf leadingZeros PASS-STAT loadStatus prioritize nibbleCarries sixes sum sumCorrect booth partial firstStep step UMULLAST UDIVFIRST UDIVSTEP UDIVLAST REMCORR inField PASS-MASK
+unfolding performOf stepOf execs readAt storeAt gathered spreadOut asRead loaded zeroOf merged carryOf overflowOf rotatedUp fieldMask priorityOf leadingZeros PASS-STAT loadStatus prioritize nibbleCarries sum sumCorrect booth partial firstStep step UMULLAST UDIVFIRST UDIVSTEP UDIVLAST REMCORR inField PASS-MASK
 lettered-examples = refl

@@ -44,7 +44,7 @@ fn signed_first(x: Inputs) -> Outputs
     let bit = steps::signed_bit(x, x.b);
     let out = bits::sign(x.b, x.bits());
     let o = x.result(steps::shift_up(x.b, steps::sign_q(x)), x.b);
-    let mut status = o.status;
+    let mut status = o.held();
     status.l = out;
     status.m = bit;
     status.s = out;
@@ -61,7 +61,7 @@ fn unsigned_first(x: Inputs) -> Outputs
     ensures { λ r. ⌜ r ≡ UDIVFIRST x ⌝ }
 {
     let o = x.result(steps::shift_up(x.b, steps::sign_q(x)), x.b);
-    let mut status = o.status;
+    let mut status = o.held();
     status.l = bits::sign(x.b, x.bits());
     status.m = 1;
     status.s = 0;
@@ -81,7 +81,7 @@ fn signed_step(x: Inputs) -> Outputs
     let f = steps::form(x, n, x.status.m);
     let bit = steps::signed_bit(x, f.value);
     let o = x.result(steps::shift_up(f.value, steps::sign_q(x)), x.b);
-    let mut status = o.status;
+    let mut status = o.held();
     status.c = f.carry;
     status.l = bits::sign(f.value, n);
     status.m = bit;
@@ -99,7 +99,7 @@ fn signed_last_1(x: Inputs) -> Outputs
 {
     let f = steps::form(x, x.bits(), x.status.m);
     let o = x.result(f.value, x.b);
-    let mut status = o.status;
+    let mut status = o.held();
     status.c = f.carry;
     status.m = steps::signed_bit(x, f.value);
     Outputs {
@@ -145,7 +145,7 @@ fn unsigned_last(x: Inputs) -> Outputs
     let n = x.bits();
     let f = steps::form(x, n, x.status.m);
     let bit = steps::unsigned_bit(x, f.carry);
-    let mut status = x.status;
+    let mut status = x.held();
     status.n = steps::extended_sign(x, f.carry);
     status.z = bits::is_zero(f.value, n);
     status.c = f.carry;
@@ -181,7 +181,7 @@ fn correct_remainder(x: Inputs) -> Outputs
     requires { ⌜ Sound x ⌝ }
     ensures { λ r. ⌜ r ≡ REMCORR x ⌝ }
 {
-    let mut status = x.status;
+    let mut status = x.held();
     if steps::remainder_test(x) == 0 {
         status.c = 0;
         return Outputs {
@@ -205,7 +205,7 @@ fn correct_quotient(x: Inputs) -> Outputs
     requires { ⌜ Sound x ⌝ }
     ensures { λ r. ⌜ r ≡ QUOCORR x ⌝ }
 {
-    let mut status = x.status;
+    let mut status = x.held();
     if steps::printed_test(x) == 0 {
         status.c = 0;
         status.v = 0;
@@ -219,8 +219,9 @@ fn correct_quotient(x: Inputs) -> Outputs
     let less = 1 - x.status.m;
     let one = steps::operand(1, less);
     let f = bits::add(x.b, one, less);
-    status.c = bits::carry(x.b, one, less, f, n);
-    status.v = bits::overflow(x.b, one, less, f, n);
+    let exact = bits::sum(x.b, one, less);
+    status.c = bits::carry(x.b, one, less, exact, n);
+    status.v = bits::overflow(x.b, one, less, exact, n);
     Outputs {
         y: bits::merge(f, x.b, n),
         q: x.q,
@@ -235,7 +236,7 @@ fn signed_last_2(x: Inputs) -> Outputs
 {
     let sign = (steps::sign_q(x) + x.status.s) % 2;
     let r = bits::add(x.b, steps::operand(x.a, sign), sign);
-    let mut status = x.status;
+    let mut status = x.held();
     status.z = steps::zero_if_negative(x, r);
     Outputs {
         y: bits::merge(r, x.b, x.bits()),
@@ -255,7 +256,7 @@ fn step_on_bytes(x: Inputs, f: Formed, fill: u32, bit: u32, q: u32) -> Outputs
 {
     let n = x.bits();
     let r = steps::shift_up(f.value, fill);
-    let mut status = x.status;
+    let mut status = x.held();
     status.z = bits::is_zero(r, n);
     status.c = f.carry;
     status.l = bits::sign(f.value, n);
@@ -278,7 +279,7 @@ fn step_on_word(x: Inputs, c: u32, fill: u32, q: u32) -> Outputs
 {
     let f = steps::form(x, 32, c);
     let y = steps::shift_up(f.value, fill);
-    let mut status = x.status;
+    let mut status = x.held();
     status.z = bits::is_zero(y, 32);
     status.c = f.carry;
     status.l = bits::sign(f.value, 32);
@@ -289,7 +290,7 @@ fn step_on_word(x: Inputs, c: u32, fill: u32, q: u32) -> Outputs
 fn link_to_s(o: Outputs) -> Outputs
     ensures { λ r. ⌜ r ≡ record { y = o .y; q = o .q; status = withS (o .status .l) (o .status) } ⌝ }
 {
-    let mut status = o.status;
+    let mut status = o.held();
     status.s = status.l;
     Outputs {
         y: o.y,

@@ -29,10 +29,10 @@ pub fn form(x: Inputs, n: u32, c: u32) -> Formed
     ensures { λ r. ⌜ (r .value ≡ formed x c % 2 ^ 32) × (r .carry ≡ carryOut x n c) × (r .carry < 2) ⌝ }
 {
     let a = operand(x.a, x.status.m);
-    let value = bits::add(x.b, a, c);
+    let exact = bits::sum(x.b, a, c);
     Formed {
-        value,
-        carry: bits::carry(x.b, a, c, value, n),
+        value: bits::add(x.b, a, c),
+        carry: bits::carry(x.b, a, c, exact, n),
     }
 }
 

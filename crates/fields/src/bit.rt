@@ -23,7 +23,7 @@ pub fn extract(x: Inputs, s: u32) -> Outputs
     ensures { λ r. ⌜ r ≡ extractBit x s ⌝ }
 {
     let f = extracted(x, s);
-    let mut status = x.status;
+    let mut status = x.held();
     status.z = bits::is_zero(f, 32);
     status.l = f;
     Outputs {
@@ -38,8 +38,8 @@ pub fn extract_status(x: Inputs) -> Outputs
     requires { ⌜ Sound x ⌝ }
     ensures { λ r. ⌜ r ≡ EXTBIT-STAT x ⌝ }
 {
-    let mut status = x.status;
-    let f = extracted(x, x.read(status));
+    let f = extracted(x, x.read(x.status));
+    let mut status = x.held();
     status.l = f;
     Outputs {
         y: f,

@@ -20,7 +20,7 @@ pub fn place(x: Inputs) -> u32
 pub fn leave(x: Inputs, y: u32, z: u32) -> Outputs
     ensures { λ r. ⌜ r ≡ leaving x y (withZ z (withN (signOf 32 y) (x .status))) ⌝ }
 {
-    let mut status = x.status;
+    let mut status = x.held();
     status.n = bits::sign(y, 32);
     status.z = z;
     Outputs { y, q: x.q, status }

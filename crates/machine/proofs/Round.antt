@@ -5,7 +5,8 @@ use native.Mathlib.Nat.{div-one}
 use native.Mathlib.Omega.{arith}
 use lib.Pow.{high, low}
 use Rattle.machine.specs.declared.Status.{Status}
-use Rattle.machine.specs.Status.{workedOut, asRead, loaded, Good}
+use Rattle.machine.specs.Status.{workedOut, gathered, spreadOut, asRead, loaded, Good, withNibbles}
+use Rattle.machine.proofs.Nibbles.{gathered-lt, apart-spread}
 
 bound : (c n v z : ℕ) → c < 2 → n < 2 → v < 2 → z < 2 → max c z + (n + v) % 2 * 2 + max ((n + v) % 2) z * 4 < 8
 bound c n v z hc hn hv hz = omega arith
@@ -15,11 +16,11 @@ field-at : (k j hi f lo x : ℕ) → x ≡ (hi * 2 ^ j + f) * 2 ^ k + lo → lo 
 field-at k j hi f lo x e h l = ap (λ (y : ℕ). y / 2 ^ k % 2 ^ j) e ∙ ap (λ (y : ℕ). y % 2 ^ j) (high (hi * 2 ^ j + f) k h) ∙ low hi j l
 
 -- the fields of a word put together from numbers within their bits
-module _ (p w d c n v z l m s b : ℕ) (hp : p < 256) (hw : w < 32) (hd : d < 8) (hc : c < 2) (hn : n < 2) (hv : v < 2) (hz : z < 2) (hl : l < 2) (hm : m < 2) (hs : s < 2) (hb : b < 256) where
+module _ (p w d c n v z l m s b : ℕ) (hp : p < 256) (hw : w < 32) (hd : d < 8) (hc : c < 2) (hn : n < 2) (hv : v < 2) (hz : z < 2) (hl : l < 2) (hm : m < 2) (hs : s < 2) where
   abbrev word : ℕ
   word = p + w * 2 ^ 8 + d * 2 ^ 13 + c * 2 ^ 16 + n * 2 ^ 17 + v * 2 ^ 18 + z * 2 ^ 19 + l * 2 ^ 20 + m * 2 ^ 21 + s * 2 ^ 22 + b * 2 ^ 24
 
-  back : _≡_ {A = Status} (loaded word) (record { position = p; width = w; c = c; n = n; v = v; z = z; l = l; m = m; s = s; nibbles = b })
+  back : _≡_ {A = Status} (loaded word) (record { position = p; width = w; c = c; n = n; v = v; z = z; l = l; m = m; s = s; nibbles = spreadOut 8 b })
   unfolding loaded
   back =
       let e0 : word % 2 ^ 8 ≡ p = ap (λ (y : ℕ). y % 2 ^ 8) (sym (div-one word)) ∙ field-at 0 8 (w + d * 2 ^ 5 + c * 2 ^ 8 + n * 2 ^ 9 + v * 2 ^ 10 + z * 2 ^ 11 + l * 2 ^ 12 + m * 2 ^ 13 + s * 2 ^ 14 + b * 2 ^ 16) p 0 word (omega arith) (omega arith) hp in
@@ -31,14 +32,15 @@ module _ (p w d c n v z l m s b : ℕ) (hp : p < 256) (hw : w < 32) (hd : d < 8)
       let e6 : word / 2 ^ 20 % 2 ^ 1 ≡ l = field-at 20 1 (m + s * 2 ^ 1 + b * 2 ^ 3) l (p + w * 2 ^ 8 + d * 2 ^ 13 + c * 2 ^ 16 + n * 2 ^ 17 + v * 2 ^ 18 + z * 2 ^ 19) word (omega arith) (omega arith) hl in
       let e7 : word / 2 ^ 21 % 2 ^ 1 ≡ m = field-at 21 1 (s + b * 2 ^ 2) m (p + w * 2 ^ 8 + d * 2 ^ 13 + c * 2 ^ 16 + n * 2 ^ 17 + v * 2 ^ 18 + z * 2 ^ 19 + l * 2 ^ 20) word (omega arith) (omega arith) hm in
       let e8 : word / 2 ^ 22 % 2 ^ 1 ≡ s = field-at 22 1 (b * 2 ^ 1) s (p + w * 2 ^ 8 + d * 2 ^ 13 + c * 2 ^ 16 + n * 2 ^ 17 + v * 2 ^ 18 + z * 2 ^ 19 + l * 2 ^ 20 + m * 2 ^ 21) word (omega arith) (omega arith) hs in
-      let e9 : word / 2 ^ 24 % 2 ^ 8 ≡ b = field-at 24 8 (0) b (p + w * 2 ^ 8 + d * 2 ^ 13 + c * 2 ^ 16 + n * 2 ^ 17 + v * 2 ^ 18 + z * 2 ^ 19 + l * 2 ^ 20 + m * 2 ^ 21 + s * 2 ^ 22) word (omega arith) (omega arith) hb in
-      λ i. record { position = e0 i; width = e1 i; c = e2 i; n = e3 i; v = e4 i; z = e5 i; l = e6 i; m = e7 i; s = e8 i; nibbles = e9 i }
+      let e9 : word / 2 ^ 24 ≡ b = omega arith in
+      λ i. record { position = e0 i; width = e1 i; c = e2 i; n = e3 i; v = e4 i; z = e5 i; l = e6 i; m = e7 i; s = e8 i; nibbles = spreadOut 8 (e9 i) }
 
 pub loaded-read : (s : Status) → Good s → loaded (asRead s) ≡ s
 unfolding asRead
 loaded-read s g =
-    back (s .position) (s .width) (workedOut s) (s .c) (s .n) (s .v) (s .z) (s .l) (s .m) (s .s) (s .nibbles)
-    (g .position) (g .width) (bound (s .c) (s .n) (s .v) (s .z) (g .c) (g .n) (g .v) (g .z)) (g .c) (g .n) (g .v) (g .z) (g .l) (g .m) (g .s) (g .nibbles)
+    back (s .position) (s .width) (workedOut s) (s .c) (s .n) (s .v) (s .z) (s .l) (s .m) (s .s) (gathered 8 (s .nibbles))
+    (g .position) (g .width) (bound (s .c) (s .n) (s .v) (s .z) (g .c) (g .n) (g .v) (g .z)) (g .c) (g .n) (g .v) (g .z) (g .l) (g .m) (g .s)
+    ∙ ap (λ (b : ℕ). withNibbles b s) (g .nibbles)
 
 pub loaded-good : (x : ℕ) → Good (loaded x)
 unfolding loaded
@@ -52,9 +54,9 @@ loaded-good x = record {
   l = omega arith;
   m = omega arith;
   s = omega arith;
-  nibbles = omega arith;
+  nibbles = apart-spread 8 (x / 2 ^ 24);
 }
 
 pub read-lt : (s : Status) → Good s → asRead s < 2 ^ 32
 unfolding asRead
-read-lt s g = let h : workedOut s < 8 = bound (s .c) (s .n) (s .v) (s .z) (g .c) (g .n) (g .v) (g .z) in omega arith
+read-lt s g = let h : workedOut s < 8 = bound (s .c) (s .n) (s .v) (s .z) (g .c) (g .n) (g .v) (g .z) in omega (arith, gathered-lt 8 (s .nibbles))

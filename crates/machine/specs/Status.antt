@@ -1,6 +1,7 @@
 -- The status register ('Status Register', figure 3): its fields, the word that a program reads, and the word that it loads. Inside the chip it
 -- is held without bits 13, 14, 15 and 23. Assumes nothing.
-use Prim.Native.Nat.{ℕ, _+_, _*_, _/_, _%_, _^_, _<_, max}
+use mathlib.Core.Path.{_≡_}
+use Prim.Native.Nat.{ℕ, zero, suc, _+_, _*_, _/_, _%_, _^_, _<_, max}
 use Rattle.bits.specs.Bits.{xor}
 use Rattle.machine.specs.declared.Status.{Status}
 
@@ -21,6 +22,16 @@ SIGNED-LE s = max (SIGNED-LT s) (s .z)
 abbrev pub workedOut : Status → ℕ
 workedOut s = UNSIGNED-LE s + SIGNED-LT s * 2 + SIGNED-LE s * 4
 
+-- the nibble bits, bits 31 to 24, are held as they arise, the bit of nibble i at 4 i: the bits of k nibbles side by side, as they are read
+unfoldable pub gathered : ℕ → ℕ → ℕ
+gathered zero x = 0
+gathered (suc k) x = x % 2 + 2 * gathered k (x / 16)
+
+-- and spread out again, as they are loaded
+unfoldable pub spreadOut : ℕ → ℕ → ℕ
+spreadOut zero x = 0
+spreadOut (suc k) x = x % 2 + 16 * spreadOut k (x / 2)
+
 -- the register as it is read: bits 13 to 15 worked out, bit 23 zero
 unfoldable pub asRead : Status → ℕ
 asRead s =
@@ -34,7 +45,7 @@ asRead s =
     + s .l * 2 ^ 20
     + s .m * 2 ^ 21
     + s .s * 2 ^ 22
-    + s .nibbles * 2 ^ 24
+    + gathered 8 (s .nibbles) * 2 ^ 24
 
 -- a word loaded into the register: its bits 13, 14, 15 and 23 are ignored
 unfoldable pub loaded : ℕ → Status
@@ -49,10 +60,10 @@ loaded x =
       l = x / 2 ^ 20 % 2;
       m = x / 2 ^ 21 % 2;
       s = x / 2 ^ 22 % 2;
-      nibbles = x / 2 ^ 24 % 2 ^ 8;
+      nibbles = spreadOut 8 (x / 2 ^ 24);
     }
 
--- each field within its bits
+-- each field within its bits: the nibble bits are at 0, 4, .. 28 and nowhere else, so that gathered and spread out they are the same
 pub record Good (t : Status) : Type 0 where
   pub position : t .position < 256
   pub width : t .width < 32
@@ -63,7 +74,7 @@ pub record Good (t : Status) : Type 0 where
   pub l : t .l < 2
   pub m : t .m < 2
   pub s : t .s < 2
-  pub nibbles : t .nibbles < 256
+  pub nibbles : spreadOut 8 (gathered 8 (t .nibbles)) ≡ t .nibbles
 
 -- ---- the register with one part changed, each other part as it was
 abbrev pub withPosition : ℕ → Status → Status

@@ -1,23 +1,21 @@
 // The machine: the status register, Q, and what stands at the chip when a word starts and when it ends.
 ghost use mathlib.Core.Path.{_≡_};
-ghost use Prim.Native.Nat.{_+_, _*_, _/_, _%_, _<_, _≤_, max};
-ghost use Rattle.machine.specs.Status.{workedOut, asRead, loaded, Good};
+ghost use Prim.Native.Nat.{_+_, _*_, _^_, _<_, _≤_};
+ghost use Rattle.machine.specs.Status.{workedOut, gathered, spreadOut, asRead, loaded, Good};
 ghost use Rattle.machine.specs.Inputs.{bitsOf, positionOf, widthOf, carryIn, linkIn, readBy, fullWidth, result, Sound};
 ghost use Rattle.machine.specs.Core.{freshOf, taken, handedBack, shownBy};
 
-// The status register as fields, without bits 13, 14, 15 and 23. Each flag is 0 or 1. Their order is for speed alone: with it no operation
-// leaves two fields by themselves between others that it touches. The compiler would copy such a pair as one number of 64 bits, in that
-// operation and so in the whole run, and take it apart again for each word (docs/SPEED.md).
+// The status register as fields, without bits 13, 14, 15 and 23. Each flag is 0 or 1; the bit of nibble i is bit 4 i.
 pub struct Status {
     pub position: u32,
-    pub v: u32,
     pub width: u32,
+    pub c: u32,
+    pub n: u32,
+    pub v: u32,
+    pub z: u32,
+    pub l: u32,
     pub m: u32,
     pub s: u32,
-    pub c: u32,
-    pub l: u32,
-    pub n: u32,
-    pub z: u32,
     pub nibbles: u32,
 }
 
@@ -112,8 +110,6 @@ impl Status {
     // Bit weights (figure 3). The position bits start at weight 1.
     pub const WIDTH: u32 = 0x100;
 
-    pub const WORKED_OUT: u32 = 0x2000;
-
     pub const C: u32 = 0x1_0000;
 
     pub const N: u32 = 0x2_0000;
@@ -144,17 +140,46 @@ impl Status {
             l: x / Self::L % 2,
             m: x / Self::M % 2,
             s: x / Self::S % 2,
-            nibbles: x / Self::NIBBLES % 256,
+            nibbles: spread(x / Self::NIBBLES),
         }
     }
 
-    // Bits 13 to 15 as one number, lowest first.
-    fn work_out(self) -> u32
-        requires { ⌜ Good self ⌝ }
-        ensures { λ r. ⌜ r ≡ workedOut self ⌝ }
+    // The register field by field. Where an operation takes it whole and changes some fields, the compiler would copy two neighbours that it
+    // leaves alone as one number of 64 bits, and then do so in the whole run, and take them apart again for each word (docs/SPEED.md).
+    fn apart(self) -> Status
+        ensures { λ r. ⌜ r ≡ self ⌝ }
     {
-        let less = (self.n + self.v) % 2;
-        either(self.c, self.z) + less * 2 + either(less, self.z) * 4
+        Status {
+            position: self.position,
+            width: self.width,
+            c: self.c,
+            n: self.n,
+            v: self.v,
+            z: self.z,
+            l: self.l,
+            m: self.m,
+            s: self.s,
+            nibbles: self.nibbles,
+        }
+    }
+
+    // Each flag with those of bits 13 to 15 that it counts in: C in 13, N and V in 14 and 15, Z in 13 and 15.
+    const C_13: u32 = 0x1_2000;
+
+    const N_14_15: u32 = 0x2_c000;
+
+    const V_14_15: u32 = 0x4_c000;
+
+    const Z_13_15: u32 = 0x8_a000;
+
+    // Bits 13 to 19 in their places: where one bit is of two flags, N and V are exclusive, C and Z are not.
+    fn flags(self) -> u32
+        requires { ⌜ Good self ⌝ }
+        ensures { λ r. ⌜ (r ≡ workedOut self * 2 ^ 13 + self .c * 2 ^ 16 + self .n * 2 ^ 17 + self .v * 2 ^ 18 + self .z * 2 ^ 19) × (r < 2 ^ 20) ⌝ }
+    {
+        ((self.n * Self::N_14_15) ^ (self.v * Self::V_14_15))
+            | (self.c * Self::C_13)
+            | (self.z * Self::Z_13_15)
     }
 
     // The register as it is read.
@@ -162,22 +187,36 @@ impl Status {
         requires { ⌜ Good self ⌝ }
         ensures { λ r. ⌜ r ≡ asRead self ⌝ }
     {
-        let worked_out = self.work_out();
+        let flags = self.flags();
         self.position
             + self.width * Self::WIDTH
-            + worked_out * Self::WORKED_OUT
-            + self.c * Self::C
-            + self.n * Self::N
-            + self.v * Self::V
-            + self.z * Self::Z
+            + flags
             + self.l * Self::L
             + self.m * Self::M
             + self.s * Self::S
-            + self.nibbles * Self::NIBBLES
+            + gather(self.nibbles)
+    }
+}
+
+impl Outputs {
+    // The status register, for an operation to change.
+    pub fn held(self) -> Status
+        ensures { λ r. ⌜ r ≡ self .status ⌝ }
+    {
+        let status = self.status;
+        status.apart()
     }
 }
 
 impl Inputs {
+    // The status register, for an operation to change.
+    pub fn held(self) -> Status
+        ensures { λ r. ⌜ r ≡ self .status ⌝ }
+    {
+        let status = self.status;
+        status.apart()
+    }
+
     // The number of selected bits.
     pub fn bits(self) -> u32
         requires { ⌜ Sound self ⌝ }
@@ -244,7 +283,7 @@ impl Inputs {
         ensures { λ o. ⌜ o ≡ result self r u ⌝ }
     {
         let n = self.bits();
-        let mut s = self.status;
+        let mut s = self.held();
         s.z = bits::is_zero(r, n);
         s.n = bits::sign(r, n);
         Outputs {
@@ -263,9 +302,21 @@ fn full_width(w: u32) -> u32
     if w == 0 { 32 } else { w }
 }
 
-// The or of two flags.
-fn either(f: u32, g: u32) -> u32
-    ensures { λ r. ⌜ r ≡ max f g ⌝ }
+// The nibble bits read: two at a time into each byte, and the four bytes together at the top by one product.
+fn gather(x: u32) -> u32
+    requires { ⌜ spreadOut 8 (gathered 8 x) ≡ x ⌝ }
+    ensures { λ r. ⌜ (r ≡ gathered 8 x * 2 ^ 24) × (r ≤ 0xff00_0000) ⌝ }
 {
-    if f < g { g } else { f }
+    let pairs = (x | (x >> 3)) & 0x0303_0303;
+    ((pairs as u64 * 0x104_1040) & 0xff00_0000) as u32
+}
+
+// The nibble bits loaded: the upper half of the bits goes up, then the upper half of each half, then that of each pair.
+fn spread(x: u32) -> u32
+    requires { ⌜ x < 256 ⌝ }
+    ensures { λ r. ⌜ r ≡ spreadOut 8 x ⌝ }
+{
+    let halves = (x * 0x1001) & 0x000f_000f;
+    let pairs = (halves * 0x41) & 0x0303_0303;
+    (pairs * 9) & 0x1111_1111
 }

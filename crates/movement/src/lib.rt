@@ -25,7 +25,7 @@ pub fn sign_extend(x: Inputs, s: u32) -> Outputs
 {
     let n = x.bits();
     let y = bits::merge(s, bits::spread(bits::sign(s, n)), n);
-    let mut status = x.status;
+    let mut status = x.held();
     status.z = bits::is_zero(y, 32);
     status.n = bits::sign(y, 32);
     Outputs { y, q: x.q, status }
@@ -127,7 +127,7 @@ pub fn sign(x: Inputs) -> Outputs
     ensures { λ r. ⌜ r ≡ SIGN x ⌝ }
 {
     let n = x.bits();
-    let mut status = x.status;
+    let mut status = x.held();
     status.z = 1 - x.status.n;
     Outputs {
         y: bits::merge(bits::spread(x.status.n), x.b, n),
@@ -171,7 +171,7 @@ pub fn prioritize(x: Inputs, s: u32) -> Outputs
 {
     let n = x.bits();
     let code = bits::priority(s, n);
-    let mut status = x.status;
+    let mut status = x.held();
     status.position = code;
     status.z = bits::is_zero(s, n);
     Outputs {

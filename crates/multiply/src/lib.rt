@@ -8,21 +8,8 @@ ghost use lib.ListN.{getD};
 ghost use Rattle.machine.specs.Inputs.{bitsOf, Sound};
 ghost use Rattle.multiply.specs.Multiply.{zeroExtended, signExtended, partial, shiftedBy2, firstStep, step, SMULFIRST, UMULLAST, multiplies};
 
-// The weight of bit k.
-fn weight(k: u32) -> u64
-    requires { ⌜ k ≤ 35 ⌝ }
-    ensures { λ r. ⌜ r ≡ 2 ^ k ⌝ }
-{
-    1 << k
-}
-
-// The low k bits.
-fn low_bits(x: u64, k: u32) -> u64
-    requires { ⌜ k ≤ 35 ⌝ }
-    ensures { λ r. ⌜ r ≡ x % 2 ^ k ⌝ }
-{
-    x & (weight(k) - 1)
-}
+// Room to take from: a multiple of 2 ^ (n + 2) for every n, and above all that is taken.
+const ROOM: u64 = 0x100_0000_0000;
 
 fn wide(x: u32) -> u64
     ensures { λ r. ⌜ r ≡ x ⌝ }
@@ -32,48 +19,56 @@ fn wide(x: u32) -> u64
 
 fn zero_extended(n: u32, s: u32) -> u64
     requires { ⌜ (1 ≤ n) × (n ≤ 32) ⌝ }
-    ensures { λ r. ⌜ (r ≡ zeroExtended n s) × (r < 2 ^ (n + 2)) ⌝ }
+    ensures { λ r. ⌜ (r % 2 ^ (n + 2) ≡ zeroExtended n s) × (r ≤ 2 ^ 41) ⌝ }
 {
     wide(bits::cut(s, n))
 }
 
+// The sign counts once more negative: its weight is taken off twice.
 fn sign_extended(n: u32, s: u32) -> u64
     requires { ⌜ (1 ≤ n) × (n ≤ 32) ⌝ }
-    ensures { λ r. ⌜ (r ≡ signExtended n s) × (r < 2 ^ (n + 2)) ⌝ }
+    ensures { λ r. ⌜ (r % 2 ^ (n + 2) ≡ signExtended n s) × (r ≤ 2 ^ 41) ⌝ }
 {
-    wide(bits::cut(s, n)) + wide(bits::sign(s, n)) * (3 * weight(n))
+    wide(bits::cut(s, n)) + (ROOM - 2 * wide(bits::sign_bit(s, n)))
 }
 
-// F*, from A*, B*, Q and M. The row of the table that Q1 Q0 M picks is A* taken Q0 + M times, less twice A* where Q1 is set; the
-// difference is made by a two's complement.
+// F*, from A*, B*, Q and M. The row of the table that Q1 Q0 M picks is A* taken Q0 + M times, less twice A* where Q1 is set.
 fn partial(n: u32, a: u64, b: u64, q: u32, m: u32) -> u64
-    requires { ⌜ (1 ≤ n) × (n ≤ 32) × (a < 2 ^ (n + 2)) × (b < 2 ^ (n + 2)) × (m < 2) ⌝ }
-    ensures { λ r. ⌜ (r ≡ partial n a b q m) × (r < 2 ^ (n + 2)) ⌝ }
+    requires { ⌜ (n ≤ 32) × (a ≤ 2 ^ 41) × (b ≤ 2 ^ 41) × (m < 2) ⌝ }
+    ensures { λ r. ⌜ r % 2 ^ (n + 2) ≡ partial n (a % 2 ^ (n + 2)) (b % 2 ^ (n + 2)) q m ⌝ }
 {
     let added = wide(q % 2 + m) * a;
-    let taken = wide(q / 2 % 2) * (weight(n + 3) - 2 * a);
-    low_bits(b + added + taken, n + 2)
+    let taken = wide(q / 2 % 2) * (2 * a);
+    b + added + (8 * ROOM - taken)
+}
+
+// The selected bits of Q two bits down, f below 4 filling them from above.
+fn down_by_2(n: u32, q: u32, f: u32) -> u32
+    requires { ⌜ (8 ≤ n) × (n ≤ 32) × (f < 4) ⌝ }
+    ensures { λ r. ⌜ r ≡ q % 2 ^ n / 4 + f * 2 ^ (n - 2) ⌝ }
+{
+    let k = 32 - n;
+    (bits::up(k, q) / 4 + bits::up(30, f)) >> k
 }
 
 // F* two bits down on Y; its low two bits fill Q from above; Q1 goes to M.
 fn shifted_by_2(x: Inputs, n: u32, f: u64) -> Outputs
-    requires { ⌜ (n ≡ bitsOf x) × (8 ≤ n) × (n ≤ 32) × (f < 2 ^ (n + 2)) ⌝ }
-    ensures { λ r. ⌜ r ≡ shiftedBy2 x f ⌝ }
+    requires { ⌜ (n ≡ bitsOf x) × (8 ≤ n) × (n ≤ 32) ⌝ }
+    ensures { λ r. ⌜ r ≡ shiftedBy2 x (f % 2 ^ (n + 2)) ⌝ }
 {
-    let fill = bits::up(n - 2, (f % 4) as u32);
-    let mut status = x.status;
+    let mut status = x.held();
     status.m = bits::bit(1, x.q);
     Outputs {
-        y: bits::merge((f / 4) as u32, x.b, n),
-        q: bits::merge(bits::cut(x.q, n) / 4 + fill, x.q, n),
+        y: bits::merge(bits::low(f / 4), x.b, n),
+        q: bits::merge(down_by_2(n, x.q, bits::low(f % 4)), x.q, n),
         status,
     }
 }
 
 // The first step, from A*: B counts as zero, and M as 0.
 fn first_step(x: Inputs, a: u64) -> Outputs
-    requires { ⌜ Sound x × (a < 2 ^ (bitsOf x + 2)) ⌝ }
-    ensures { λ r. ⌜ r ≡ firstStep x a ⌝ }
+    requires { ⌜ Sound x × (a ≤ 2 ^ 41) ⌝ }
+    ensures { λ r. ⌜ r ≡ firstStep x (a % 2 ^ (bitsOf x + 2)) ⌝ }
 {
     let n = x.bits();
     shifted_by_2(x, n, partial(n, a, 0, x.q, 0))
@@ -81,8 +76,8 @@ fn first_step(x: Inputs, a: u64) -> Outputs
 
 // A step of the inner loop, from A*.
 fn step(x: Inputs, a: u64) -> Outputs
-    requires { ⌜ Sound x × (a < 2 ^ (bitsOf x + 2)) ⌝ }
-    ensures { λ r. ⌜ r ≡ step x a ⌝ }
+    requires { ⌜ Sound x × (a ≤ 2 ^ 41) ⌝ }
+    ensures { λ r. ⌜ r ≡ step x (a % 2 ^ (bitsOf x + 2)) ⌝ }
 {
     let n = x.bits();
     shifted_by_2(x, n, partial(n, a, sign_extended(n, x.b), x.q, x.status.m))
@@ -95,7 +90,7 @@ fn last(x: Inputs) -> Outputs
 {
     let n = x.bits();
     let r = bits::add(x.b, x.status.m * x.a, 0);
-    let mut status = x.status;
+    let mut status = x.held();
     status.z = bits::is_zero(r, n);
     Outputs {
         y: bits::merge(r, x.b, n),

@@ -13,7 +13,7 @@ use Rattle.bits.specs.Bits.{flag, bitOf, notOf, carryOf}
 use Rattle.arithmetic.specs.Nibbles.{nibbleCarries, nibbleBorrows}
 use Rattle.sequence.specs.AppendixA.{printedCarry, printedCarries}
 use Rattle.sequence.proofs.Lists.{not-cut}
-use Rattle.sequence.proofs.DecimalNumbers.{Test, Test.holds, Test.fails, test-lt, flag-lt, ten, Ten, Ten.less, Ten.more, ten-is, cout, cout-suc, cout-top, nb, borrows-suc, borrows-agree, top-agree, split16, pow16}
+use Rattle.sequence.proofs.DecimalNumbers.{Test, Test.holds, Test.fails, test-lt, flag-lt, ten, Ten, Ten.less, Ten.more, ten-is, cout, cout-suc, cout-top, nb, borrows-suc, borrows-low, top-low, split16, pow16}
 
 -- ---- nibble-carries
 test-eq : (a b : ℕ) → Test (a ≡ b) (eqb a b)
@@ -57,7 +57,7 @@ unfolding printedCarries nibbleCarries
 carries-are zero a b binary nibble hb hn = refl
 carries-are (suc k) a b binary nibble hb hn =
     rw (rule-is (a % 16) (b % 16) binary nibble hb hn)
-    (ap (λ (x : ℕ). ten (a % 16 + b % 16 + nibble) + 2 * x)
+    (ap (λ (x : ℕ). ten (a % 16 + b % 16 + nibble) + 16 * x)
     (carries-are k (a / 16) (b / 16) ((a % 16 + b % 16 + binary) / 16) (ten (a % 16 + b % 16 + nibble))
     (binary-le (a % 16) (b % 16) binary nibble (ten (a % 16 + b % 16 + nibble)) (omega arith) (omega arith) hb hn (ten-is (a % 16 + b % 16 + nibble)))
     (flag-lt (ltb 9 (a % 16 + b % 16 + nibble)))))
@@ -101,12 +101,12 @@ complement W A B c hA hB hc (fails h e) = ap flag e ∙ sym (ap (λ (x : ℕ). 1
     whole : A + ((W - 1) - B) + (1 - c) ≡ 1 * W + (A - (B + c))
     whole = omega arith
 
--- NIBBLE BORROWS. Bit i of the nibble borrows of a - b - w is the complement of the carry out of nibble i while the chip adds a, the complement of b,
+-- NIBBLE BORROWS. Bit 4 i of the nibble borrows of a - b - w is the complement of the carry out of nibble i while the chip adds a, the complement of b,
 -- and the carry in, as appendix A says that it is implemented.
-pub borrows-as-implemented : (i a b w : ℕ) → i < 8 → w < 2 → b < 2 ^ 32 → bitOf i (nibbleBorrows 8 a b w) ≡ 1 - carryOf (4 * suc i) a (notOf b) (1 - w)
+pub borrows-as-implemented : (i a b w : ℕ) → i < 8 → w < 2 → b < 2 ^ 32 → bitOf (4 * i) (nibbleBorrows 8 a b w) ≡ 1 - carryOf (4 * suc i) a (notOf b) (1 - w)
 unfolding carryOf
 borrows-as-implemented i a b w hi hw hb =
-    subst (λ (k : ℕ). bitOf i (nibbleBorrows k a b w) ≡ bitOf i (nibbleBorrows (suc i) a b w)) (omega arith) (top-agree i _ _ (borrows-agree (suc i) (7 - i) a b w))
+    subst (λ (k : ℕ). bitOf (4 * i) (nibbleBorrows k a b w) ≡ bitOf (4 * i) (nibbleBorrows (suc i) a b w)) (omega arith) (top-low i _ _ (borrows-low (suc i) (7 - i) a b w))
     ∙ sym (cout-top i w (nibbleBorrows (suc i) a b w)) ∙ borrow-out (suc i) w a b hw
     ∙ ap (λ (v : ℕ). flag (ltb (a % v) (b % v + w))) (sym (pow16 (suc i)))
     ∙ complement (2 ^ (4 * suc i)) (a % 2 ^ (4 * suc i)) (b % 2 ^ (4 * suc i)) w (mod-lt a (pow-pos (4 * suc i))) (mod-lt b (pow-pos (4 * suc i))) hw (test-lt _ _)

@@ -14,7 +14,7 @@ use Rattle.bits.proofs.BitByBit.{bit-lt, by-flag, bit-not}
 use Rattle.bits.proofs.Adder.{full-sum, full-carry}
 use Rattle.machine.specs.declared.Status.{Status}
 use Rattle.machine.specs.declared.Inputs.{Inputs}
-use Rattle.machine.specs.Status.{asRead, Good}
+use Rattle.machine.specs.Status.{gathered, asRead, Good}
 use Rattle.machine.specs.Inputs.{bitsOf, Sound}
 use Rattle.bits.proofs.Bounds.{selected-bounds}
 use Rattle.machine.proofs.Kept.{bits-le}
@@ -113,11 +113,11 @@ unfolding asRead
 read-less s g =
     let x : xor (s .n) (s .v) < 2 = mod-lt (s .n + s .v) (lit< tt) in
     bit-at
-    (max (xor (s .n) (s .v)) (s .z) + s .c * 2 + s .n * 2 ^ 2 + s .v * 2 ^ 3 + s .z * 2 ^ 4 + s .l * 2 ^ 5 + s .m * 2 ^ 6 + s .s * 2 ^ 7 + s .nibbles * 2 ^ 9)
+    (max (xor (s .n) (s .v)) (s .z) + s .c * 2 + s .n * 2 ^ 2 + s .v * 2 ^ 3 + s .z * 2 ^ 4 + s .l * 2 ^ 5 + s .m * 2 ^ 6 + s .s * 2 ^ 7 + gathered 8 (s .nibbles) * 2 ^ 9)
     (xor (s .n) (s .v))
     (s .position + s .width * 2 ^ 8 + max (s .c) (s .z) * 2 ^ 13)
     (asRead s)
-    (parts (s .position) (s .width) (max (s .c) (s .z)) (xor (s .n) (s .v)) (max (xor (s .n) (s .v)) (s .z)) (s .c) (s .n) (s .v) (s .z) (s .l) (s .m) (s .s) (s .nibbles))
+    (parts (s .position) (s .width) (max (s .c) (s .z)) (xor (s .n) (s .v)) (max (xor (s .n) (s .v)) (s .z)) (s .c) (s .n) (s .v) (s .z) (s .l) (s .m) (s .s) (gathered 8 (s .nibbles)))
     (small (s .position) (s .width) (max (s .c) (s .z)) (g .position) (g .width) (flags (s .c) (s .z) (g .c) (g .z)))
     x
   where

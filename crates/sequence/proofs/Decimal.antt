@@ -1,14 +1,14 @@
 -- Decimal sums and differences come out exact on registers. Assumes nothing.
 use mathlib.Core.Path.{_≡_, refl, sym, ap, _∙_, subst}
 use mathlib.Core.List.{List, [], _∷_}
-use Prim.Native.Nat.{ℕ, zero, suc, _+_, _-_, _/_, _^_, _≤_, _<_}
+use Prim.Native.Nat.{ℕ, zero, suc, _+_, _-_, _*_, _/_, _^_, _≤_, _<_}
 use native.Mathlib.Omega.{arith}
 use lib.ListN.{length}
 use Rattle.bits.specs.Bits.{choose, bitOf, merged, notOf}
 use Rattle.machine.specs.declared.Inputs.{Inputs}
 use Rattle.machine.specs.declared.Outputs.{Outputs}
 use Rattle.machine.specs.Inputs.{bitsOf, carryIn, Sound}
-use Rattle.arithmetic.specs.Nibbles.{nibbleCarries, nibbleBorrows, sixes}
+use Rattle.arithmetic.specs.Nibbles.{nibbleCarries, nibbleBorrows}
 use Rattle.arithmetic.specs.Arithmetic.{sum, difference, borrowIn}
 use Rattle.arithmetic.specs.Decimal.{sumCorrect, diffCorrect}
 use Rattle.chip.specs.Glossary.{performOf}
@@ -89,8 +89,8 @@ module _ (o : DecimalOperation) (s : IsSum o) (d : Layout) (t : State) (h1 : 1 �
   out = sum x (o .first x) (o .second x) (o .third x) (s .inverted x) (o .passing x)
 
   numbers : SumCorrected (digitsIn (d .w)) (o .third x) (o .first x) (o .second x)
-      (merged (bitsOf x) (merged (bitsOf x) (o .first x + o .second x + o .third x) (o .passing x) + sixes 8 (nibbleCarries 8 (o .first x) (o .second x) (o .third x))) (merged (bitsOf x) (o .first x + o .second x + o .third x) (o .passing x)))
-      (bitOf (bitsOf x / 4 - 1) (nibbleCarries 8 (o .first x) (o .second x) (o .third x)))
+      (merged (bitsOf x) (merged (bitsOf x) (o .first x + o .second x + o .third x) (o .passing x) + 6 * nibbleCarries 8 (o .first x) (o .second x) (o .third x)) (merged (bitsOf x) (o .first x + o .second x + o .third x) (o .passing x)))
+      (bitOf (bitsOf x - 4) (nibbleCarries 8 (o .first x) (o .second x) (o .third x)))
   numbers = sum-at (d .w) (bitsOf x) (o .first x) (o .second x) (o .third x) (o .passing x) h1 h4 (bits-of-bytes (d .w) h1 h4) (s .flagged x sound) v1 v2
 
   abbrev end : State
@@ -147,8 +147,8 @@ module _ (o : DecimalOperation) (s : IsDifference o) (d : Layout) (t : State) (h
   outₛ = difference xₛ (o .first xₛ) (o .second xₛ) (s .entering xₛ) (o .passing xₛ)
 
   numbersₛ : DiffCorrected (digitsIn (d .w)) (1 - c) (o .first xₛ) (o .second xₛ)
-      (merged (bitsOf xₛ) (merged (bitsOf xₛ) (o .first xₛ + notOf (o .second xₛ) + c) (o .passing xₛ) + notOf (sixes 8 borrows) + 1) (merged (bitsOf xₛ) (o .first xₛ + notOf (o .second xₛ) + c) (o .passing xₛ)))
-      (bitOf (bitsOf xₛ / 4 - 1) borrows)
+      (merged (bitsOf xₛ) (merged (bitsOf xₛ) (o .first xₛ + notOf (o .second xₛ) + c) (o .passing xₛ) + notOf (6 * borrows) + 1) (merged (bitsOf xₛ) (o .first xₛ + notOf (o .second xₛ) + c) (o .passing xₛ)))
+      (bitOf (bitsOf xₛ - 4) borrows)
   numbersₛ = difference-at (d .w) (bitsOf xₛ) (o .first xₛ) (o .second xₛ) c (o .passing xₛ) h1 h4 (bits-of-bytes (d .w) h1 h4) (s .flagged xₛ sound) v1 v2 (s .a-word xₛ ha hb)
 
   abbrev endₛ : State
@@ -164,7 +164,7 @@ module _ (o : DecimalOperation) (s : IsDifference o) (d : Layout) (t : State) (h
       record {
         digits = subst (λ (y : ℕ). Digits (digitsIn (d .w)) y) (sym (given d t hy hz outₛ diffCorrect)) (numbersₛ .valid);
         difference = ap (λ (y : ℕ). value (digitsIn (d .w)) y) (given d t hy hz outₛ diffCorrect) ∙ numbersₛ .difference;
-        borrowed = bitOf (bitsOf xₛ / 4 - 1) borrows;
+        borrowed = bitOf (bitsOf xₛ - 4) borrows;
         balance = ap (λ (y : ℕ). value (digitsIn (d .w)) y + value (digitsIn (d .w)) (o .second xₛ) + (1 - c)) (given d t hy hz outₛ diffCorrect) ∙ numbersₛ .balance;
         carry = refl;
       }

@@ -4,12 +4,13 @@ use mathlib.Core.Path.{_≡_, refl, sym, ap, _∙_, subst}
 use mathlib.Core.Bool.{Bool, true, false}
 use Prim.Native.Nat.{ℕ, zero, suc, _+_, _-_, _*_, _/_, _%_, _^_, _<_, _≤_}
 use native.Mathlib.Omega.{arith}
-use native.Mathlib.Nat.{div-one, div-div-eq-div-mul, suc-add}
+use native.Mathlib.Nat.{div-one, suc-add, mul-assoc}
 use lib.Dec.{ltb}
 use lib.Arith.{digits-div, digits-mod, mod-mul}
+use lib.Pow.{shr-shr, field, mod-mod-pow}
 use borrow.Author.Tests.{ltb-true, ltb-false}
 use Rattle.bits.specs.Bits.{flag, bitOf}
-use Rattle.arithmetic.specs.Nibbles.{nibbleCarries, nibbleBorrows, sixes}
+use Rattle.arithmetic.specs.Nibbles.{nibbleCarries, nibbleBorrows}
 use Rattle.sequence.specs.Decimal.{Digits, value}
 
 -- ---- tests
@@ -46,12 +47,12 @@ ten-is x = go (test-lt 9 x)
 -- ---- one nibble: the sum of the digits and the carry in, with its 6, is a digit and the carry out
 unfoldable pub cout : ℕ → ℕ → ℕ → ℕ
 cout zero c nc = c
-cout (suc k) c nc = cout k (nc % 2) (nc / 2)
+cout (suc k) c nc = cout k (nc % 2) (nc / 16)
 
 pub record Sum (k c A B nc : ℕ) : Type 0 where
   digits : ℕ
   out : ℕ
-  binary : A + B + c + sixes k nc ≡ digits + 16 ^ k * out
+  binary : A + B + c + 6 * nc ≡ digits + 16 ^ k * out
   decimal : value k A + value k B + c ≡ value k digits + 10 ^ k * out
   valid : Digits k digits
   fits : digits < 16 ^ k
@@ -76,31 +77,24 @@ module _ (k d D : ℕ) (hd : d < 10) where
   fits-suc : D < 16 ^ k → d + 16 * D < 16 ^ suc k
   fits-suc h = omega arith
 
--- a bit in front of k bits
-pub cout-suc : (k c n m : ℕ) → n < 2 → cout (suc k) c (n + 2 * m) ≡ cout k n m
+-- a nibble bit in front of k of them
+pub cout-suc : (k c n m : ℕ) → n < 2 → cout (suc k) c (n + 16 * m) ≡ cout k n m
 unfolding cout
 cout-suc k c n m h = rw (e0, e1)
   where
-    e0 : (n + 2 * m) % 2 ≡ n
+    e0 : (n + 16 * m) % 2 ≡ n
     e0 = omega arith
 
-    e1 : (n + 2 * m) / 2 ≡ m
+    e1 : (n + 16 * m) / 16 ≡ m
     e1 = omega arith
 
-pub cout-top : (k c nc : ℕ) → cout (suc k) c nc ≡ bitOf k nc
+pub cout-top : (k c nc : ℕ) → cout (suc k) c nc ≡ bitOf (4 * k) nc
 unfolding cout
 cout-top zero c nc = ap (λ (x : ℕ). x % 2) (sym (div-one nc))
-cout-top (suc k) c nc = cout-top k (nc % 2) (nc / 2) ∙ ap (λ (x : ℕ). x % 2) (div-div-eq-div-mul nc 2 (2 ^ k) ∙ ap (λ (x : ℕ). nc / x) (omega arith))
-
-pub sixes-suc : (k n m : ℕ) → n < 2 → sixes (suc k) (n + 2 * m) ≡ 6 * n + 16 * sixes k m
-unfolding sixes
-sixes-suc k n m h = rw (e0, e1)
+cout-top (suc k) c nc = cout-top k (nc % 2) (nc / 16) ∙ ap (λ (x : ℕ). x % 2) (shr-shr nc 4 (4 * k) ∙ ap (λ (x : ℕ). nc / 2 ^ x) e)
   where
-    e0 : (n + 2 * m) % 2 ≡ n
-    e0 = omega arith
-
-    e1 : (n + 2 * m) / 2 ≡ m
-    e1 = omega arith
+    e : 4 + 4 * k ≡ 4 * suc k
+    e = omega arith
 
 p16 : (k x : ℕ) → 16 ^ suc k * x ≡ 16 * (16 ^ k * x)
 p16 k x = omega (arith, ap (λ (y : ℕ). y * x) e)
@@ -118,11 +112,11 @@ value-is : (k x : ℕ) → value (suc k) x ≡ x % 16 + 10 * value k (x / 16)
 unfolding value
 value-is k x = refl
 
-sum-step : (k c A B n m d : ℕ) → d + 10 * n ≡ A % 16 + B % 16 + c → d < 10 → n < 2 → Sum k n (A / 16) (B / 16) m → Sum (suc k) c A B (n + 2 * m)
+sum-step : (k c A B n m d : ℕ) → d + 10 * n ≡ A % 16 + B % 16 + c → d < 10 → n < 2 → Sum k n (A / 16) (B / 16) m → Sum (suc k) c A B (n + 16 * m)
 sum-step k c A B n m d e hd hn r = record {
   digits = d + 16 * r .digits;
   out = r .out;
-  binary = omega (arith, r .binary, sixes-suc k n m hn, p16 k (r .out));
+  binary = omega (arith, r .binary, p16 k (r .out));
   decimal = omega (arith, r .decimal, value-suc k d (r .digits) hd, value-is k A, value-is k B, p10 k (r .out));
   valid = digits-suc k d (r .digits) hd (r .valid);
   fits = fits-suc k d (r .digits) hd (r .fits);
@@ -130,12 +124,12 @@ sum-step k c A B n m d e hd hn r = record {
   carry = r .carry ∙ sym (cout-suc k c n m hn);
 }
 
-sum-ten : (k c A B n m : ℕ) → c < 2 → A % 16 < 10 → B % 16 < 10 → Ten (A % 16 + B % 16 + c) n → Sum k n (A / 16) (B / 16) m → Sum (suc k) c A B (n + 2 * m)
+sum-ten : (k c A B n m : ℕ) → c < 2 → A % 16 < 10 → B % 16 < 10 → Ten (A % 16 + B % 16 + c) n → Sum k n (A / 16) (B / 16) m → Sum (suc k) c A B (n + 16 * m)
 sum-ten k c A B n m hc ha hb (less e h) r = sum-step k c A B n m (A % 16 + B % 16 + c) (omega arith) h (omega arith) r
 sum-ten k c A B n m hc ha hb (more e h) r = sum-step k c A B n m (A % 16 + B % 16 + c - 10) (omega arith) (omega arith) (omega arith) r
 
 pub sums : (k c A B : ℕ) → c < 2 → A < 16 ^ k → B < 16 ^ k → Digits k A → Digits k B → Sum k c A B (nibbleCarries k A B c)
-unfolding nibbleCarries sixes value cout
+unfolding nibbleCarries value cout
 sums zero c A B hc hA hB vA vB = record { digits = 0; out = c; binary = omega arith; decimal = omega arith; valid = tt; fits = omega arith; out< = hc; carry = refl }
 sums (suc k) c A B hc hA hB vA vB =
     sum-ten k c A B _ _ hc (vA .0) (vB .0) (ten-is (A % 16 + B % 16 + c))
@@ -153,7 +147,7 @@ pub record SumCorrected (k c A B Y C : ℕ) : Type 0 where
   pub sum : value k Y ≡ (value k A + value k B + c) % 10 ^ k
   pub carry : C ≡ (value k A + value k B + c) / 10 ^ k
 
-pub sum-end : (k c A B nc Y C : ℕ) → Sum (suc k) c A B nc → Y ≡ (A + B + c + sixes (suc k) nc) % 16 ^ suc k → C ≡ bitOf k nc → SumCorrected (suc k) c A B Y C
+pub sum-end : (k c A B nc Y C : ℕ) → Sum (suc k) c A B nc → Y ≡ (A + B + c + 6 * nc) % 16 ^ suc k → C ≡ bitOf (4 * k) nc → SumCorrected (suc k) c A B Y C
 sum-end k c A B nc Y C r hY hC = record {
   valid = subst (λ (x : ℕ). Digits (suc k) x) (sym e) (r .valid);
   sum = ap (λ (x : ℕ). value (suc k) x) e ∙ sym (ap (λ (x : ℕ). x % 10 ^ suc k) dec ∙ digits-mod (r .out) (value-lt (suc k) (r .digits) (r .valid)));
@@ -163,7 +157,7 @@ sum-end k c A B nc Y C r hY hC = record {
     dec : value (suc k) A + value (suc k) B + c ≡ r .out * 10 ^ suc k + value (suc k) (r .digits)
     dec = omega (arith, r .decimal)
 
-    bin : A + B + c + sixes (suc k) nc ≡ r .out * 16 ^ suc k + r .digits
+    bin : A + B + c + 6 * nc ≡ r .out * 16 ^ suc k + r .digits
     bin = omega (arith, r .binary)
 
     e : Y ≡ r .digits
@@ -173,18 +167,18 @@ sum-end k c A B nc Y C r hY hC = record {
 pub record Dif (k c A B nc : ℕ) : Type 0 where
   digits : ℕ
   out : ℕ
-  binary : digits + sixes k nc + B + c ≡ A + 16 ^ k * out
+  binary : digits + 6 * nc + B + c ≡ A + 16 ^ k * out
   decimal : value k digits + value k B + c ≡ value k A + 10 ^ k * out
   valid : Digits k digits
   fits : digits < 16 ^ k
   out< : out < 2
   carry : out ≡ cout k c nc
 
-dif-step : (k c A B n m d : ℕ) → d + B % 16 + c ≡ A % 16 + 10 * n → d < 10 → n < 2 → Dif k n (A / 16) (B / 16) m → Dif (suc k) c A B (n + 2 * m)
+dif-step : (k c A B n m d : ℕ) → d + B % 16 + c ≡ A % 16 + 10 * n → d < 10 → n < 2 → Dif k n (A / 16) (B / 16) m → Dif (suc k) c A B (n + 16 * m)
 dif-step k c A B n m d e hd hn r = record {
   digits = d + 16 * r .digits;
   out = r .out;
-  binary = omega (arith, r .binary, sixes-suc k n m hn, p16 k (r .out));
+  binary = omega (arith, r .binary, p16 k (r .out));
   decimal = omega (arith, r .decimal, value-suc k d (r .digits) hd, value-is k A, value-is k B, p10 k (r .out));
   valid = digits-suc k d (r .digits) hd (r .valid);
   fits = fits-suc k d (r .digits) hd (r .fits);
@@ -192,21 +186,16 @@ dif-step k c A B n m d e hd hn r = record {
   carry = r .carry ∙ sym (cout-suc k c n m hn);
 }
 
-dif-test : (k c A B m : ℕ) (t : Bool) → c < 2 → A % 16 < 10 → B % 16 < 10 → Test (A % 16 < B % 16 + c) t → Dif k (flag t) (A / 16) (B / 16) m → Dif (suc k) c A B (flag t + 2 * m)
+dif-test : (k c A B m : ℕ) (t : Bool) → c < 2 → A % 16 < 10 → B % 16 < 10 → Test (A % 16 < B % 16 + c) t → Dif k (flag t) (A / 16) (B / 16) m → Dif (suc k) c A B (flag t + 16 * m)
 dif-test k c A B m t hc ha hb (holds h e) r = dif-step k c A B (flag t) m (A % 16 + 10 - (B % 16 + c)) (omega (arith, ap flag e)) (omega arith) (flag-lt t) r
 dif-test k c A B m t hc ha hb (fails h e) r = dif-step k c A B (flag t) m (A % 16 - (B % 16 + c)) (omega (arith, ap flag e)) (omega arith) (flag-lt t) r
 
 pub difs : (k c A B : ℕ) → c < 2 → A < 16 ^ k → B < 16 ^ k → Digits k A → Digits k B → Dif k c A B (nibbleBorrows k A B c)
-unfolding nibbleBorrows sixes value cout
+unfolding nibbleBorrows value cout
 difs zero c A B hc hA hB vA vB = record { digits = 0; out = c; binary = omega arith; decimal = omega arith; valid = tt; fits = omega arith; out< = hc; carry = refl }
 difs (suc k) c A B hc hA hB vA vB =
     dif-test k c A B _ _ hc (vA .0) (vB .0) (test-lt (A % 16) (B % 16 + c))
     (difs k (flag (ltb (A % 16) (B % 16 + c))) (A / 16) (B / 16) (flag-lt (ltb (A % 16) (B % 16 + c))) (omega arith) (omega arith) (vA .1) (vB .1))
-
-pub sixes-lt : (k nc : ℕ) → sixes k nc < 16 ^ k
-unfolding sixes
-sixes-lt zero nc = omega arith
-sixes-lt (suc k) nc = omega (arith, sixes-lt k (nc / 2))
 
 -- the difference modulo 10 ^ k is the one number below it that B and c bring to A, or to A and 10 ^ k where that borrows
 pub record DiffCorrected (k c A B Y N : ℕ) : Type 0 where
@@ -215,9 +204,9 @@ pub record DiffCorrected (k c A B Y N : ℕ) : Type 0 where
   pub balance : value k Y + value k B + c ≡ value k A + 10 ^ k * N
 
 pub dif-end :
-    (k c A B nc Y : ℕ) → c < 2 → B < 16 ^ suc k → Digits (suc k) B → Dif (suc k) c A B nc →
-    Y ≡ (A + (16 ^ suc k - (B + c)) + (16 ^ suc k - sixes (suc k) nc)) % 16 ^ suc k → DiffCorrected (suc k) c A B Y (bitOf k nc)
-dif-end k c A B nc Y hc hB vB r hY = record {
+    (k c A B nc Y : ℕ) → c < 2 → B < 16 ^ suc k → Digits (suc k) B → 6 * nc < 16 ^ suc k → Dif (suc k) c A B nc →
+    Y ≡ (A + (16 ^ suc k - (B + c)) + (16 ^ suc k - 6 * nc)) % 16 ^ suc k → DiffCorrected (suc k) c A B Y (bitOf (4 * k) nc)
+dif-end k c A B nc Y hc hB vB six r hY = record {
   valid = subst (λ (x : ℕ). Digits (suc k) x) (sym e) (r .valid);
   difference = ap (λ (x : ℕ). value (suc k) x) e ∙ sym (ap (λ (x : ℕ). x % 10 ^ suc k) (dec (r .out) (r .out<) (r .decimal)) ∙ digits-mod (1 - r .out) (value-lt (suc k) (r .digits) (r .valid)));
   balance = rw (e, ← (r .carry ∙ cout-top k c nc)) (r .decimal);
@@ -228,9 +217,9 @@ dif-end k c A B nc Y hc hB vB r hY = record {
     dec (suc zero) ho h = omega (arith, value-lt (suc k) B vB)
     dec (suc (suc o)) ho h = absurd (omega arith)
 
-    bin : (o : ℕ) → o < 2 → r .digits + sixes (suc k) nc + B + c ≡ A + 16 ^ suc k * o → A + (16 ^ suc k - (B + c)) + (16 ^ suc k - sixes (suc k) nc) ≡ (2 - o) * 16 ^ suc k + r .digits
-    bin zero ho h = omega (arith, sixes-lt (suc k) nc)
-    bin (suc zero) ho h = omega (arith, sixes-lt (suc k) nc)
+    bin : (o : ℕ) → o < 2 → r .digits + 6 * nc + B + c ≡ A + 16 ^ suc k * o → A + (16 ^ suc k - (B + c)) + (16 ^ suc k - 6 * nc) ≡ (2 - o) * 16 ^ suc k + r .digits
+    bin zero ho h = omega arith
+    bin (suc zero) ho h = omega arith
     bin (suc (suc o)) ho h = absurd (omega arith)
 
     e : Y ≡ r .digits
@@ -271,7 +260,7 @@ unfolding nibbleCarries
 carries-cut zero A B c = refl
 carries-cut (suc k) A B c =
     rw (low16 k A, low16 k B, high16 k A, high16 k B)
-    (ap (λ (x : ℕ). ten (A % 16 + B % 16 + c) + 2 * x) (carries-cut k (A / 16) (B / 16) (ten (A % 16 + B % 16 + c))))
+    (ap (λ (x : ℕ). ten (A % 16 + B % 16 + c) + 16 * x) (carries-cut k (A / 16) (B / 16) (ten (A % 16 + B % 16 + c))))
 
 -- one nibble of the borrows
 abbrev pub nb : ℕ → ℕ → ℕ → ℕ
@@ -281,67 +270,7 @@ pub borrows-cut : (k A B c : ℕ) → nibbleBorrows k (A % 16 ^ k) (B % 16 ^ k) 
 unfolding nibbleBorrows
 borrows-cut zero A B c = refl
 borrows-cut (suc k) A B c =
-    rw (low16 k A, low16 k B, high16 k A, high16 k B) (ap (λ (x : ℕ). nb A B c + 2 * x) (borrows-cut k (A / 16) (B / 16) (nb A B c)))
-
--- the correction word of k + j nibbles, cut to k of them
-pub sixes-cut : (k j nc : ℕ) → sixes (k + j) nc % 16 ^ k ≡ sixes k nc
-unfolding sixes
-sixes-cut zero j nc = omega arith
-sixes-cut (suc k) j nc =
-    ap (λ (i : ℕ). sixes i nc % 16 ^ suc k) (suc-add k j) ∙ split16 k (6 * (nc % 2) + 16 * sixes (k + j) (nc / 2))
-    ∙ rw (e1, e0) (omega (arith, sixes-cut k j (nc / 2)))
-  where
-    e0 : (6 * (nc % 2) + 16 * sixes (k + j) (nc / 2)) % 16 ≡ 6 * (nc % 2)
-    e0 = omega arith
-
-    e1 : (6 * (nc % 2) + 16 * sixes (k + j) (nc / 2)) / 16 ≡ sixes (k + j) (nc / 2)
-    e1 = omega arith
-
--- of the nibble bits of k + j nibbles, the correction of the low k and its carry out read those of the low k
-carries-suc : (k A B c : ℕ) → nibbleCarries (suc k) A B c ≡ ten (A % 16 + B % 16 + c) + 2 * nibbleCarries k (A / 16) (B / 16) (ten (A % 16 + B % 16 + c))
-unfolding nibbleCarries
-carries-suc k A B c = refl
-
-pub borrows-suc : (k A B c : ℕ) → nibbleBorrows (suc k) A B c ≡ nb A B c + 2 * nibbleBorrows k (A / 16) (B / 16) (nb A B c)
-unfolding nibbleBorrows
-borrows-suc k A B c = refl
-
-lower : (k j A B c : ℕ) → nibbleCarries (suc k + j) A B c ≡ ten (A % 16 + B % 16 + c) + 2 * nibbleCarries (k + j) (A / 16) (B / 16) (ten (A % 16 + B % 16 + c))
-lower k j A B c = ap (λ (x : ℕ). nibbleCarries x A B c) (suc-add k j) ∙ carries-suc (k + j) A B c
-
-lowerB : (k j A B c : ℕ) → nibbleBorrows (suc k + j) A B c ≡ nb A B c + 2 * nibbleBorrows (k + j) (A / 16) (B / 16) (nb A B c)
-lowerB k j A B c = ap (λ (x : ℕ). nibbleBorrows x A B c) (suc-add k j) ∙ borrows-suc (k + j) A B c
-
--- two sets of nibble bits that agree on the low k
-pub data Agree : ℕ → ℕ → ℕ → Type 0 where
-  none : {x y : ℕ} → Agree 0 x y
-  more : {k n x y x' y' : ℕ} → n < 2 → x' ≡ n + 2 * x → y' ≡ n + 2 * y → Agree k x y → Agree (suc k) x' y'
-
-pub carries-agree : (k j A B c : ℕ) → Agree k (nibbleCarries (k + j) A B c) (nibbleCarries k A B c)
-carries-agree zero j A B c = none
-carries-agree (suc k) j A B c = more (flag-lt (ltb 9 (A % 16 + B % 16 + c))) (lower k j A B c) (carries-suc k A B c) (carries-agree k j (A / 16) (B / 16) (ten (A % 16 + B % 16 + c)))
-
-pub borrows-agree : (k j A B c : ℕ) → Agree k (nibbleBorrows (k + j) A B c) (nibbleBorrows k A B c)
-borrows-agree zero j A B c = none
-borrows-agree (suc k) j A B c = more (flag-lt (ltb (A % 16) (B % 16 + c))) (lowerB k j A B c) (borrows-suc k A B c) (borrows-agree k j (A / 16) (B / 16) (nb A B c))
-
-sixes-zero : (x : ℕ) → sixes 0 x ≡ 0
-unfolding sixes
-sixes-zero x = refl
-
-pub sixes-agree : {k x y : ℕ} → Agree k x y → sixes k x ≡ sixes k y
-sixes-agree none = sixes-zero _ ∙ sym (sixes-zero _)
-sixes-agree (more {k} {n} {x} {y} h e f a) =
-    ap (sixes (suc k)) e ∙ sixes-suc k n x h ∙ ap (λ (v : ℕ). 6 * n + 16 * v) (sixes-agree a) ∙ sym (ap (sixes (suc k)) f ∙ sixes-suc k n y h)
-
-cout-agree : {k x y : ℕ} → Agree k x y → (c : ℕ) → cout k c x ≡ cout k c y
-unfolding cout
-cout-agree none c = refl
-cout-agree (more {k} {n} {x} {y} h e f a) c =
-    ap (cout (suc k) c) e ∙ cout-suc k c n x h ∙ cout-agree a n ∙ sym (ap (cout (suc k) c) f ∙ cout-suc k c n y h)
-
-pub top-agree : (k x y : ℕ) → Agree (suc k) x y → bitOf k x ≡ bitOf k y
-top-agree k x y a = sym (cout-top k 0 x) ∙ cout-agree a 0 ∙ cout-top k 0 y
+    rw (low16 k A, low16 k B, high16 k A, high16 k B) (ap (λ (x : ℕ). nb A B c + 16 * x) (borrows-cut k (A / 16) (B / 16) (nb A B c)))
 
 -- k nibbles of 4 bits
 pub pow16 : (k : ℕ) → 2 ^ (4 * k) ≡ 16 ^ k
@@ -350,3 +279,55 @@ pow16 (suc k) = ap (λ (x : ℕ). 2 ^ x) e ∙ omega (arith, pow16 k)
   where
     e : 4 * suc k ≡ suc (suc (suc (suc (4 * k))))
     e = omega arith
+
+-- ---- of the nibble bits x of more nibbles, y are those of the low k
+pub record Low (k x y : ℕ) : Type 0 where
+  above : ℕ
+  is : x ≡ above * 16 ^ k + y
+  pub small : 15 * y < 16 ^ k
+
+low-suc : (k n x y : ℕ) → n < 2 → Low k x y → Low (suc k) (n + 16 * x) (n + 16 * y)
+low-suc k n x y h l = record {
+  above = l .above;
+  is = omega (arith, l .is, ap (λ (v : ℕ). l .above * v) e, p16 k (l .above));
+  small = omega (arith, l .small);
+}
+  where
+    e : 16 ^ suc k ≡ 16 * 16 ^ k
+    e = omega arith
+
+pub carries-low : (k j A B c : ℕ) → Low k (nibbleCarries (k + j) A B c) (nibbleCarries k A B c)
+unfolding nibbleCarries
+carries-low zero j A B c = record { above = nibbleCarries (zero + j) A B c; is = omega arith; small = omega arith }
+carries-low (suc k) j A B c =
+    subst (λ (m : ℕ). Low (suc k) (nibbleCarries m A B c) (nibbleCarries (suc k) A B c)) (sym (suc-add k j))
+    (low-suc k (ten (A % 16 + B % 16 + c)) _ _ (flag-lt (ltb 9 (A % 16 + B % 16 + c))) (carries-low k j (A / 16) (B / 16) (ten (A % 16 + B % 16 + c))))
+
+pub borrows-suc : (k A B c : ℕ) → nibbleBorrows (suc k) A B c ≡ nb A B c + 16 * nibbleBorrows k (A / 16) (B / 16) (nb A B c)
+unfolding nibbleBorrows
+borrows-suc k A B c = refl
+
+pub borrows-low : (k j A B c : ℕ) → Low k (nibbleBorrows (k + j) A B c) (nibbleBorrows k A B c)
+unfolding nibbleBorrows
+borrows-low zero j A B c = record { above = nibbleBorrows (zero + j) A B c; is = omega arith; small = omega arith }
+borrows-low (suc k) j A B c =
+    subst (λ (m : ℕ). Low (suc k) (nibbleBorrows m A B c) (nibbleBorrows (suc k) A B c)) (sym (suc-add k j))
+    (low-suc k (nb A B c) _ _ (flag-lt (ltb (A % 16) (B % 16 + c))) (borrows-low k j (A / 16) (B / 16) (nb A B c)))
+
+-- the correction word of more nibbles, cut to k of them
+pub six-low : (k x y : ℕ) → Low k x y → 6 * x % 16 ^ k ≡ 6 * y
+six-low k x y l = ap (λ (v : ℕ). v % 16 ^ k) e ∙ digits-mod (6 * l .above) (omega (arith, l .small))
+  where
+    e : 6 * x ≡ 6 * l .above * 16 ^ k + 6 * y
+    e = omega (arith, l .is, mul-assoc 6 (l .above) (16 ^ k))
+
+-- the highest of them
+pub top-low : (k x y : ℕ) → Low (suc k) x y → bitOf (4 * k) x ≡ bitOf (4 * k) y
+top-low k x y l =
+    sym (ap (λ (v : ℕ). v / 2 ^ (4 * k) % 2) cut ∙ ap (λ (v : ℕ). v % 2) (field x 4 (4 * k)) ∙ mod-mod-pow (x / 2 ^ (4 * k)) 3 1)
+  where
+    e : 16 ^ suc k ≡ 2 ^ (4 + 4 * k)
+    e = sym (pow16 (suc k)) ∙ ap (λ (v : ℕ). 2 ^ v) (omega arith)
+
+    cut : y ≡ x % 2 ^ (4 + 4 * k)
+    cut = sym (ap (λ (v : ℕ). x % v) (sym e) ∙ ap (λ (v : ℕ). v % 16 ^ suc k) (l .is) ∙ digits-mod (l .above) (omega (arith, l .small)))

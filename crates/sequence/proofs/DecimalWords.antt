@@ -5,11 +5,11 @@ use Prim.Native.Nat.{ℕ, zero, suc, _+_, _-_, _*_, _/_, _%_, _^_, _≤_, _<_}
 use native.Mathlib.Nat.{mod-lt, add-mod, mod-add-mod}
 use native.Mathlib.Omega.{arith}
 use Rattle.bits.specs.Bits.{bitOf, merged, notOf}
-use Rattle.arithmetic.specs.Nibbles.{nibbleCarries, nibbleBorrows, sixes}
+use Rattle.arithmetic.specs.Nibbles.{nibbleCarries, nibbleBorrows}
 use Rattle.sequence.specs.Sequences.{bitsIn}
 use Rattle.sequence.specs.Decimal.{Digits, digitsIn}
 use Rattle.sequence.proofs.Lists.{merged-low, not-cut, cut-sum}
-use Rattle.sequence.proofs.DecimalNumbers.{SumCorrected, sum-end, sums, DiffCorrected, dif-end, difs, pow16-pos, pow16, digits-cut, digits-whole, value-cut, carries-cut, borrows-cut, sixes-cut, sixes-lt, carries-agree, borrows-agree, sixes-agree, top-agree}
+use Rattle.sequence.proofs.DecimalNumbers.{SumCorrected, sum-end, sums, DiffCorrected, dif-end, difs, pow16-pos, pow16, digits-cut, digits-whole, value-cut, carries-cut, borrows-cut, Low, carries-low, borrows-low, six-low, top-low}
 
 -- ---- Y and its correction, as numbers: k + 1 nibbles are selected, j are not
 sum-whole : (k c p r Y C : ℕ) → SumCorrected k c (p % 16 ^ k) (r % 16 ^ k) (Y % 16 ^ k) C → SumCorrected k c p r Y C
@@ -40,8 +40,8 @@ module _ (k j n p r c u : ℕ) (pow : 2 ^ n ≡ 16 ^ suc k) (hc : c < 2) (vp : D
   abbrev cut : ℕ
   cut = nibbleCarries (suc k) (p % W) (r % W) c
 
-  six : sixes (suc k + j) whole % W ≡ sixes (suc k) cut
-  six = sixes-cut (suc k) j whole ∙ sixes-agree (carries-agree (suc k) j p r c) ∙ ap (sixes (suc k)) (sym (carries-cut (suc k) p r c))
+  six : 6 * whole % W ≡ 6 * cut
+  six = six-low (suc k) _ _ (carries-low (suc k) j p r c) ∙ ap (λ (x : ℕ). 6 * x) (sym (carries-cut (suc k) p r c))
 
   abbrev Y : ℕ
   Y = merged n (p + r + c) u
@@ -49,25 +49,25 @@ module _ (k j n p r c u : ℕ) (pow : 2 ^ n ≡ 16 ^ suc k) (hc : c < 2) (vp : D
   y-low : Y % W ≡ (p + r + c) % W
   y-low = subst (λ (v : ℕ). Y % v ≡ (p + r + c) % v) pow (merged-low n (p + r + c) u)
 
-  pub sum-numbers : SumCorrected (suc k) c p r (merged n (Y + sixes (suc k + j) whole) Y) (bitOf k whole)
+  pub sum-numbers : SumCorrected (suc k) c p r (merged n (Y + 6 * whole) Y) (bitOf (4 * k) whole)
   sum-numbers =
       sum-whole (suc k) c p r _ _
       (sum-end k c (p % W) (r % W) cut _ _
       (sums (suc k) c (p % W) (r % W) hc (mod-lt p (pow16-pos (suc k))) (mod-lt r (pow16-pos (suc k))) (digits-cut (suc k) p vp) (digits-cut (suc k) r vr))
       low
-      (top-agree k whole _ (carries-agree (suc k) j p r c) ∙ ap (bitOf k) (sym (carries-cut (suc k) p r c))))
+      (top-low k _ _ (carries-low (suc k) j p r c) ∙ ap (bitOf (4 * k)) (sym (carries-cut (suc k) p r c))))
     where
-      parts : (p % W + r % W + (c + sixes (suc k) cut) + 0 * W) ≡ p % W + r % W + c + sixes (suc k) cut
+      parts : (p % W + r % W + (c + 6 * cut) + 0 * W) ≡ p % W + r % W + c + 6 * cut
       parts = omega arith
 
-      low : merged n (Y + sixes (suc k + j) whole) Y % W ≡ (p % W + r % W + c + sixes (suc k) cut) % W
+      low : merged n (Y + 6 * whole) Y % W ≡ (p % W + r % W + c + 6 * cut) % W
       low =
-          subst (λ (v : ℕ). merged n (Y + sixes (suc k + j) whole) Y % v ≡ (Y + sixes (suc k + j) whole) % v) pow (merged-low n (Y + sixes (suc k + j) whole) Y)
-          ∙ add-mod Y (sixes (suc k + j) whole) W
+          subst (λ (v : ℕ). merged n (Y + 6 * whole) Y % v ≡ (Y + 6 * whole) % v) pow (merged-low n (Y + 6 * whole) Y)
+          ∙ add-mod Y (6 * whole) W
           ∙ ap₂ (λ (x y : ℕ). (x + y) % W) y-low six
-          ∙ mod-add-mod (p + r + c) W (sixes (suc k) cut)
-          ∙ ap (λ (x : ℕ). x % W) (regroup p r c (sixes (suc k) cut))
-          ∙ cut-sum W p r (c + sixes (suc k) cut) 0
+          ∙ mod-add-mod (p + r + c) W (6 * cut)
+          ∙ ap (λ (x : ℕ). x % W) (regroup p r c (6 * cut))
+          ∙ cut-sum W p r (c + 6 * cut) 0
           ∙ ap (λ (x : ℕ). x % W) parts
         where
           regroup : (p r c s : ℕ) → p + r + c + s ≡ p + r + (c + s)
@@ -82,13 +82,16 @@ module _ (k j n p r c u : ℕ) (pow : 2 ^ n ≡ 16 ^ suc k) (all : suc k + j ≡
   cutB = nibbleBorrows (suc k) (p % 16 ^ suc k) (r % 16 ^ suc k) (1 - c)
 
   abbrev sixB : ℕ
-  sixB = sixes (suc k + j) wholeB
+  sixB = 6 * wholeB
 
-  six-low : sixB % 16 ^ suc k ≡ sixes (suc k) cutB
-  six-low = sixes-cut (suc k) j wholeB ∙ sixes-agree (borrows-agree (suc k) j p r (1 - c)) ∙ ap (sixes (suc k)) (sym (borrows-cut (suc k) p r (1 - c)))
+  sixB-low : sixB % 16 ^ suc k ≡ 6 * cutB
+  sixB-low = six-low (suc k) _ _ (borrows-low (suc k) j p r (1 - c)) ∙ ap (λ (x : ℕ). 6 * x) (sym (borrows-cut (suc k) p r (1 - c)))
+
+  small : (m a b w : ℕ) → 6 * nibbleBorrows m a b w < 16 ^ m
+  small m a b w = omega (arith, borrows-low m 0 a b w .small)
 
   six-word : sixB < 2 ^ 32
-  six-word = subst (λ (m : ℕ). sixB < 16 ^ m) all (sixes-lt (suc k + j) wholeB)
+  six-word = subst (λ (m : ℕ). sixB < 16 ^ m) all (small (suc k + j) p r (1 - c))
 
   complement : (v : ℕ) → v < 2 ^ 32 → notOf v % 16 ^ suc k ≡ (16 ^ suc k - 1) - v % 16 ^ suc k
   complement v hv = subst (λ (x : ℕ). notOf v % x ≡ (x - 1) - v % x) pow (not-cut n v hn hv)
@@ -108,12 +111,12 @@ module _ (k j n p r c u : ℕ) (pow : 2 ^ n ≡ 16 ^ suc k) (all : suc k + j ≡
       taken W₀ P R (suc zero) h hc = omega arith
       taken W₀ P R (suc (suc c)) h hc = absurd (omega arith)
 
-  pub difference-numbers : DiffCorrected (suc k) (1 - c) p r (merged n (Z + notOf sixB + 1) Z) (bitOf k wholeB)
+  pub difference-numbers : DiffCorrected (suc k) (1 - c) p r (merged n (Z + notOf sixB + 1) Z) (bitOf (4 * k) wholeB)
   difference-numbers =
       subst (λ (N : ℕ). DiffCorrected (suc k) (1 - c) p r (merged n (Z + notOf sixB + 1) Z) N)
-      (sym (top-agree k wholeB _ (borrows-agree (suc k) j p r (1 - c)) ∙ ap (bitOf k) (sym (borrows-cut (suc k) p r (1 - c)))))
+      (sym (top-low k _ _ (borrows-low (suc k) j p r (1 - c)) ∙ ap (bitOf (4 * k)) (sym (borrows-cut (suc k) p r (1 - c)))))
       (diff-whole (suc k) (1 - c) p r _ _
-      (dif-end k (1 - c) (p % 16 ^ suc k) (r % 16 ^ suc k) cutB _ (omega arith) (mod-lt r (pow16-pos (suc k))) (digits-cut (suc k) r vr)
+      (dif-end k (1 - c) (p % 16 ^ suc k) (r % 16 ^ suc k) cutB _ (omega arith) (mod-lt r (pow16-pos (suc k))) (digits-cut (suc k) r vr) (small (suc k) (p % 16 ^ suc k) (r % 16 ^ suc k) (1 - c))
       (difs (suc k) (1 - c) (p % 16 ^ suc k) (r % 16 ^ suc k) (omega arith) (mod-lt p (pow16-pos (suc k))) (mod-lt r (pow16-pos (suc k))) (digits-cut (suc k) p vp) (digits-cut (suc k) r vr))
       low))
     where
@@ -121,18 +124,18 @@ module _ (k j n p r c u : ℕ) (pow : 2 ^ n ≡ 16 ^ suc k) (all : suc k + j ≡
       less W₀ x s h = omega arith
 
       low : merged n (Z + notOf sixB + 1) Z % 16 ^ suc k
-          ≡ (p % 16 ^ suc k + (16 ^ suc k - (r % 16 ^ suc k + (1 - c))) + (16 ^ suc k - sixes (suc k) cutB)) % 16 ^ suc k
+          ≡ (p % 16 ^ suc k + (16 ^ suc k - (r % 16 ^ suc k + (1 - c))) + (16 ^ suc k - 6 * cutB)) % 16 ^ suc k
       low =
           subst (λ (v : ℕ). merged n (Z + notOf sixB + 1) Z % v ≡ (Z + notOf sixB + 1) % v) pow (merged-low n (Z + notOf sixB + 1) Z)
           ∙ cut-sum (16 ^ suc k) Z (notOf sixB) 1 0
-          ∙ ap (λ (v : ℕ). (Z % 16 ^ suc k + v + 1 + 0 * 16 ^ suc k) % 16 ^ suc k) (complement sixB six-word ∙ ap (λ (v : ℕ). (16 ^ suc k - 1) - v) six-low)
-          ∙ ap (λ (v : ℕ). v % 16 ^ suc k) (less (16 ^ suc k) (Z % 16 ^ suc k) (sixes (suc k) cutB) (sixes-lt (suc k) cutB))
-          ∙ ap (λ (v : ℕ). (v + (16 ^ suc k - sixes (suc k) cutB)) % 16 ^ suc k) z-low
-          ∙ mod-add-mod (p % 16 ^ suc k + (16 ^ suc k - (r % 16 ^ suc k + (1 - c)))) (16 ^ suc k) (16 ^ suc k - sixes (suc k) cutB)
+          ∙ ap (λ (v : ℕ). (Z % 16 ^ suc k + v + 1 + 0 * 16 ^ suc k) % 16 ^ suc k) (complement sixB six-word ∙ ap (λ (v : ℕ). (16 ^ suc k - 1) - v) sixB-low)
+          ∙ ap (λ (v : ℕ). v % 16 ^ suc k) (less (16 ^ suc k) (Z % 16 ^ suc k) (6 * cutB) (small (suc k) (p % 16 ^ suc k) (r % 16 ^ suc k) (1 - c)))
+          ∙ ap (λ (v : ℕ). (v + (16 ^ suc k - 6 * cutB)) % 16 ^ suc k) z-low
+          ∙ mod-add-mod (p % 16 ^ suc k + (16 ^ suc k - (r % 16 ^ suc k + (1 - c)))) (16 ^ suc k) (16 ^ suc k - 6 * cutB)
 
 -- ---- at w bytes, n being what their byte code selects
 module _ (w n p r c u : ℕ) (h1 : 1 ≤ w) (h4 : w ≤ 4) (bits : n ≡ bitsIn w) (hc : c < 2) (vp : Digits (digitsIn w) p) (vr : Digits (digitsIn w) r) where
-  top-is : n / 4 - 1 ≡ digitsIn w - 1
+  top-is : n - 4 ≡ 4 * (digitsIn w - 1)
   top-is = omega arith
 
   nibbles-is : suc (digitsIn w - 1) + (8 - digitsIn w) ≡ 8
@@ -147,24 +150,24 @@ module _ (w n p r c u : ℕ) (h1 : 1 ≤ w) (h4 : w ≤ 4) (bits : n ≡ bitsIn 
       e : n ≡ 4 * suc (digitsIn w - 1)
       e = omega arith
 
-  pub sum-at : SumCorrected (digitsIn w) c p r (merged n (merged n (p + r + c) u + sixes 8 (nibbleCarries 8 p r c)) (merged n (p + r + c) u)) (bitOf (n / 4 - 1) (nibbleCarries 8 p r c))
+  pub sum-at : SumCorrected (digitsIn w) c p r (merged n (merged n (p + r + c) u + 6 * nibbleCarries 8 p r c) (merged n (p + r + c) u)) (bitOf (n - 4) (nibbleCarries 8 p r c))
   sum-at =
-      subst (λ (i : ℕ). SumCorrected (digitsIn w) c p r (merged n (merged n (p + r + c) u + sixes 8 (nibbleCarries 8 p r c)) (merged n (p + r + c) u)) (bitOf i (nibbleCarries 8 p r c))) (sym top-is)
-      (subst (λ (m : ℕ). SumCorrected (digitsIn w) c p r (merged n (merged n (p + r + c) u + sixes m (nibbleCarries m p r c)) (merged n (p + r + c) u)) (bitOf (digitsIn w - 1) (nibbleCarries m p r c))) nibbles-is
+      subst (λ (i : ℕ). SumCorrected (digitsIn w) c p r (merged n (merged n (p + r + c) u + 6 * nibbleCarries 8 p r c) (merged n (p + r + c) u)) (bitOf i (nibbleCarries 8 p r c))) (sym top-is)
+      (subst (λ (m : ℕ). SumCorrected (digitsIn w) c p r (merged n (merged n (p + r + c) u + 6 * nibbleCarries m p r c) (merged n (p + r + c) u)) (bitOf (4 * (digitsIn w - 1)) (nibbleCarries m p r c))) nibbles-is
       (subst
-      (λ (i : ℕ). SumCorrected i c p r (merged n (merged n (p + r + c) u + sixes (suc (digitsIn w - 1) + (8 - digitsIn w)) (nibbleCarries (suc (digitsIn w - 1) + (8 - digitsIn w)) p r c)) (merged n (p + r + c) u)) (bitOf (digitsIn w - 1) (nibbleCarries (suc (digitsIn w - 1) + (8 - digitsIn w)) p r c)))
+      (λ (i : ℕ). SumCorrected i c p r (merged n (merged n (p + r + c) u + 6 * (nibbleCarries (suc (digitsIn w - 1) + (8 - digitsIn w)) p r c)) (merged n (p + r + c) u)) (bitOf (4 * (digitsIn w - 1)) (nibbleCarries (suc (digitsIn w - 1) + (8 - digitsIn w)) p r c)))
       (sym digits-is)
       (sum-numbers (digitsIn w - 1) (8 - digitsIn w) n p r c u pow-is hc (subst (λ (i : ℕ). Digits i p) digits-is vp) (subst (λ (i : ℕ). Digits i r) digits-is vr))))
 
   pub difference-at :
       r < 2 ^ 32 →
       DiffCorrected (digitsIn w) (1 - c) p r
-      (merged n (merged n (p + notOf r + c) u + notOf (sixes 8 (nibbleBorrows 8 p r (1 - c))) + 1) (merged n (p + notOf r + c) u))
-      (bitOf (n / 4 - 1) (nibbleBorrows 8 p r (1 - c)))
+      (merged n (merged n (p + notOf r + c) u + notOf (6 * nibbleBorrows 8 p r (1 - c)) + 1) (merged n (p + notOf r + c) u))
+      (bitOf (n - 4) (nibbleBorrows 8 p r (1 - c)))
   difference-at hr =
-      subst (λ (i : ℕ). DiffCorrected (digitsIn w) (1 - c) p r (merged n (merged n (p + notOf r + c) u + notOf (sixes 8 (nibbleBorrows 8 p r (1 - c))) + 1) (merged n (p + notOf r + c) u)) (bitOf i (nibbleBorrows 8 p r (1 - c)))) (sym top-is)
-      (subst (λ (m : ℕ). DiffCorrected (digitsIn w) (1 - c) p r (merged n (merged n (p + notOf r + c) u + notOf (sixes m (nibbleBorrows m p r (1 - c))) + 1) (merged n (p + notOf r + c) u)) (bitOf (digitsIn w - 1) (nibbleBorrows m p r (1 - c)))) nibbles-is
+      subst (λ (i : ℕ). DiffCorrected (digitsIn w) (1 - c) p r (merged n (merged n (p + notOf r + c) u + notOf (6 * nibbleBorrows 8 p r (1 - c)) + 1) (merged n (p + notOf r + c) u)) (bitOf i (nibbleBorrows 8 p r (1 - c)))) (sym top-is)
+      (subst (λ (m : ℕ). DiffCorrected (digitsIn w) (1 - c) p r (merged n (merged n (p + notOf r + c) u + notOf (6 * nibbleBorrows m p r (1 - c)) + 1) (merged n (p + notOf r + c) u)) (bitOf (4 * (digitsIn w - 1)) (nibbleBorrows m p r (1 - c)))) nibbles-is
       (subst
-      (λ (i : ℕ). DiffCorrected i (1 - c) p r (merged n (merged n (p + notOf r + c) u + notOf (sixes (suc (digitsIn w - 1) + (8 - digitsIn w)) (nibbleBorrows (suc (digitsIn w - 1) + (8 - digitsIn w)) p r (1 - c))) + 1) (merged n (p + notOf r + c) u)) (bitOf (digitsIn w - 1) (nibbleBorrows (suc (digitsIn w - 1) + (8 - digitsIn w)) p r (1 - c))))
+      (λ (i : ℕ). DiffCorrected i (1 - c) p r (merged n (merged n (p + notOf r + c) u + notOf (6 * (nibbleBorrows (suc (digitsIn w - 1) + (8 - digitsIn w)) p r (1 - c))) + 1) (merged n (p + notOf r + c) u)) (bitOf (4 * (digitsIn w - 1)) (nibbleBorrows (suc (digitsIn w - 1) + (8 - digitsIn w)) p r (1 - c))))
       (sym digits-is)
       (difference-numbers (digitsIn w - 1) (8 - digitsIn w) n p r c u pow-is nibbles-is (omega arith) hc hr (subst (λ (i : ℕ). Digits i p) digits-is vp) (subst (λ (i : ℕ). Digits i r) digits-is vr))))

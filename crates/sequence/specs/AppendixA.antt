@@ -9,9 +9,9 @@ use Rattle.bits.specs.Bits.{flag}
 unfoldable pub printedCarry : ℕ → ℕ → ℕ → ℕ → ℕ
 printedCarry a b binary nibble = flag (ltb 9 (a + b + binary) || (eqb (a + b) 9 && (eqb nibble 1 && eqb binary 0)))
 
--- of k nibbles, the lowest nibble's lowest; binary and nibble are the two carries into it
+-- of k nibbles, each at its nibble's place; binary and nibble are the two carries into it
 unfoldable pub printedCarries : ℕ → ℕ → ℕ → ℕ → ℕ → ℕ
 printedCarries zero a b binary nibble = 0
 printedCarries (suc k) a b binary nibble =
     let t : ℕ = printedCarry (a % 16) (b % 16) binary nibble in
-    t + 2 * printedCarries k (a / 16) (b / 16) ((a % 16 + b % 16 + binary) / 16) t
+    t + 16 * printedCarries k (a / 16) (b / 16) ((a % 16 + b % 16 + binary) / 16) t

@@ -32,7 +32,7 @@ fn down(x: Inputs, s: u32, f: u32) -> Outputs
 {
     let n = x.bits();
     let o = x.result(downshifted(s, f, n), s);
-    let mut status = o.status;
+    let mut status = o.held();
     status.l = s % 2;
     Outputs {
         y: o.y,
@@ -49,7 +49,7 @@ fn down_over_q(x: Inputs, s: u32, f: u32) -> Outputs
     let n = x.bits();
     let o = down(x, s, f);
     let q = x.q;
-    let mut status = o.status;
+    let mut status = o.held();
     status.l = q % 2;
     Outputs {
         y: o.y,
@@ -85,7 +85,7 @@ fn up(x: Inputs, s: u32, f: u32) -> Outputs
     let r = upshifted(s, f);
     let o = x.result(r, s);
     let l = bits::sign(s, n);
-    let mut status = o.status;
+    let mut status = o.held();
     status.v = (l + bits::sign(r, n)) % 2;
     status.l = l;
     Outputs {

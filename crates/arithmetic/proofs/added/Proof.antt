@@ -14,6 +14,12 @@ use Rattle.arithmetic.proofs.added.Tie as tie
 bits-requires : tie.Need-bits-requires
 bits-requires c κs = search needs
 
+sum-requires : tie.Need-sum-requires
+sum-requires c κs = search needs
+
+held-requires : tie.Need-held-requires
+held-requires c κs = search needs
+
 is-zero-requires : tie.Need-is-zero-requires
 is-zero-requires c κs = search needs
 
@@ -24,7 +30,7 @@ carry-requires : tie.Need-carry-requires
 carry-requires c κs = search needs
 
 add-status : tie.Need-add-status
-add-status c = omega (arith, c .carry .ensures, carry-lt (c .before .before .before .before .bits .result) (c .before .before .before .before .before .args .p) (c .before .before .before .before .before .args .r) (c .before .before .before .before .before .args .c) (c .before .before .before .before .before .pre .1))
+add-status c = omega (arith, c .carry .ensures, carry-lt (c .before .before .before .before .before .bits .result) (c .before .before .before .before .before .before .args .p) (c .before .before .before .before .before .before .args .r) (c .before .before .before .before .before .before .args .c) (c .before .before .before .before .before .before .pre .1))
 
 overflow-requires : tie.Need-overflow-requires
 overflow-requires c κs = search needs
@@ -34,20 +40,22 @@ merge-requires c κs = search needs
 
 returns : tie.Need-returns
 returns c =
-    let x : Inputs = c .before .before .before .before .before .before .before .args .x in
-    let p : ℕ = c .before .before .before .before .before .before .before .args .p in
-    let r : ℕ = c .before .before .before .before .before .before .before .args .r in
-    let k : ℕ = c .before .before .before .before .before .before .before .args .c in
-    let i : ℕ = c .before .before .before .before .before .before .before .args .i in
-    let b : ℕ = c .before .before .before .before .before .before .before .args .nibbles in
-    rw (c .merge .ensures, c .before .overflow .ensures, c .before .before .carry .ensures, c .before .before .before .sign .ensures, c .before .before .before .before .is-zero .ensures, c .before .before .before .before .before .before .bits .ensures .0, c .before .before .before .before .before .before .before .pre .3)
-    (wrapped x (p + r + k) _ (λ t. withNibbles b (withV (overflowOf (bitsOf x) p r k) (withC (xor (carryOf (bitsOf x) p r k) i) t))) (c .before .before .before .before .before .before .before .pre .0))
+    let x : Inputs = c .before .before .before .before .before .before .before .before .args .x in
+    let p : ℕ = c .before .before .before .before .before .before .before .before .args .p in
+    let r : ℕ = c .before .before .before .before .before .before .before .before .args .r in
+    let k : ℕ = c .before .before .before .before .before .before .before .before .args .c in
+    let i : ℕ = c .before .before .before .before .before .before .before .before .args .i in
+    let b : ℕ = c .before .before .before .before .before .before .before .before .args .nibbles in
+    rw (c .merge .ensures, c .before .overflow .ensures, c .before .before .carry .ensures, c .before .before .before .sign .ensures, c .before .before .before .before .is-zero .ensures, c .before .before .before .before .before .held .ensures, c .before .before .before .before .before .before .before .bits .ensures .0, c .before .before .before .before .before .before .before .before .pre .3)
+    (wrapped x (p + r + k) _ (λ t. withNibbles b (withV (overflowOf (bitsOf x) p r k) (withC (xor (carryOf (bitsOf x) p r k) i) t))) (c .before .before .before .before .before .before .before .before .pre .0))
 
 pub added-spec : {M : Type 1} → statement M
 added-spec =
     tie.close
     (tie.spec
     bits-requires
+    sum-requires
+    held-requires
     is-zero-requires
     sign-requires
     carry-requires

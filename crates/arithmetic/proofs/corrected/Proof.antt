@@ -6,6 +6,9 @@ use Rattle.arithmetic.proofs.corrected.Tie as tie
 bits-requires : tie.Need-bits-requires
 bits-requires c κs = search needs
 
+held-requires : tie.Need-held-requires
+held-requires c κs = search needs
+
 is-zero-requires : tie.Need-is-zero-requires
 is-zero-requires c κs = search needs
 
@@ -28,13 +31,14 @@ merge-requires : tie.Need-merge-requires
 merge-requires c κs = search needs
 
 returns : tie.Need-returns
-returns c = rw (c .merge .ensures, c .before .bit .ensures, c .before .before .top-nibble .ensures .0, c .before .before .before .sign .ensures, c .before .before .before .before .is-zero .ensures, c .before .before .before .before .before .before .bits .ensures .0)
+returns c = rw (c .merge .ensures, c .before .bit .ensures, c .before .before .top-nibble .ensures .0, c .before .before .before .sign .ensures, c .before .before .before .before .is-zero .ensures, c .before .before .before .before .before .held .ensures, c .before .before .before .before .before .before .bits .ensures .0)
 
 pub corrected-spec : {M : Type 1} → statement M
 corrected-spec =
     tie.close
     (tie.spec
     bits-requires
+    held-requires
     is-zero-requires
     sign-requires
     top-nibble-requires

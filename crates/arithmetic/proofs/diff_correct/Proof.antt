@@ -1,17 +1,16 @@
--- The sixes are subtracted in 32 bits, and the difference is cut to the selected bytes. Assumes nothing.
+-- The correction word is subtracted in 32 bits, and the difference is cut to the selected bytes. Assumes nothing.
 use Prim.Native.Nat.{ℕ, _+_, _-_}
 use Rattle.bits.specs.Bits.{xor, notOf}
 use Rattle.machine.specs.declared.Inputs.{Inputs}
 use Rattle.machine.specs.Status.{withC, withV}
-use Rattle.arithmetic.specs.Nibbles.{sixes}
-use Rattle.arithmetic.specs.Decimal.{topNibble, nextNibble, diffCorrect}
+use Rattle.arithmetic.specs.Decimal.{topNibble, nextNibble, correction, diffCorrect}
 use Rattle.arithmetic.proofs.Wrapped.{wrapped}
 use borrow.Author.Needs.{needs}
 use Rattle.arithmetic.proofs.diff_correct.Statement.{statement}
 use Rattle.arithmetic.proofs.diff_correct.Tie as tie
 
-sixes-requires : tie.Need-sixes-requires
-sixes-requires c κs = search needs
+correction-requires : tie.Need-correction-requires
+correction-requires c κs = search needs
 
 subtract-requires : tie.Need-subtract-requires
 subtract-requires c κs = search needs
@@ -33,14 +32,14 @@ unfolding diffCorrect
 returns c =
     let x : Inputs = c .before .before .before .before .before .args .x in
     let s : ℕ = c .before .before .before .before .before .args .s in
-    rw (c .corrected .ensures, c .before .before .top-nibble .ensures .0, c .before .before .before .subtract .ensures, c .before .before .before .before .sixes .ensures)
-    (wrapped x (s + notOf (sixes 8 (x .status .nibbles)) + 1) s (λ t. withV (xor (topNibble x) (nextNibble x)) (withC (1 - xor (topNibble x) (x .borrow)) t)) (c .before .before .before .before .before .pre))
+    rw (c .corrected .ensures, c .before .before .top-nibble .ensures .0, c .before .before .before .subtract .ensures, c .before .before .before .before .correction .ensures)
+    (wrapped x (s + notOf (correction x) + 1) s (λ t. withV (xor (topNibble x) (nextNibble x)) (withC (1 - xor (topNibble x) (x .borrow)) t)) (c .before .before .before .before .before .pre))
 
 pub diff-correct-spec : {M : Type 1} → statement M
 diff-correct-spec =
     tie.close
     (tie.spec
-    sixes-requires
+    correction-requires
     subtract-requires
     top-nibble-requires
     add-corrected

@@ -7,8 +7,8 @@ use Rattle.arithmetic.proofs.difference.Tie as tie
 subtract-requires : tie.Need-subtract-requires
 subtract-requires c κs = search needs
 
-sub-nibble-borrows : tie.Need-sub-nibble-borrows
-sub-nibble-borrows c = search needs
+sum-requires : tie.Need-sum-requires
+sum-requires c κs = search needs
 
 nibble-borrows-requires : tie.Need-nibble-borrows-requires
 nibble-borrows-requires c κs = search needs
@@ -21,6 +21,4 @@ unfolding difference
 returns c = rw (c .added .ensures, c .before .nibble-borrows .ensures)
 
 pub difference-spec : {M : Type 1} → statement M
-difference-spec =
-    tie.close
-    (tie.spec subtract-requires sub-nibble-borrows nibble-borrows-requires added-requires returns)
+difference-spec = tie.close (tie.spec subtract-requires sum-requires nibble-borrows-requires added-requires returns)

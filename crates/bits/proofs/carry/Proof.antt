@@ -1,16 +1,26 @@
--- The carry out of the top selected bit is read off the operands and their sum there: `carry-read`. Assumes nothing.
-use mathlib.Core.Path.{_∙_}
+-- The carry out of the top selected bit is where the sum differs from its operands: `carry-read`. Assumes nothing.
 use native.Mathlib.Omega.{arith}
 use Rattle.bits.proofs.Adder.{carry-read}
 use borrow.Author.Needs.{needs}
 use Rattle.bits.proofs.carry.Statement.{statement}
 use Rattle.bits.proofs.carry.Tie as tie
 
-sign-requires : tie.Need-sign-requires
-sign-requires c κs = search needs
+sub-result : tie.Need-sub-result
+sub-result c = search needs
+
+cast-result : tie.Need-cast-result
+cast-result c = search needs
+
+shl-result : tie.Need-shl-result
+shl-result c = search needs
+
+cast-result-2 : tie.Need-cast-result-2
+cast-result-2 c = search needs
 
 returns : tie.Need-returns
-returns c = c .sign .ensures ∙ carry-read (c .before .args .n) (c .before .args .a) (c .before .args .b) (c .before .args .c) (c .before .args .s) (omega arith) (omega arith) (omega arith) (c .before .pre .3)
+returns c =
+    let x = c .args in
+    rw (c .pre .3) (carry-read (x .n) (x .a) (x .b) (x .c) (c .pre .0) (c .pre .1) (c .fits .a .fits) (c .fits .b .fits) (c .pre .2))
 
 pub carry-spec : {M : Type 1} → statement M
-carry-spec = tie.close (tie.spec sign-requires returns)
+carry-spec = tie.close (tie.spec sub-result cast-result shl-result cast-result-2 returns)

@@ -1,16 +1,21 @@
--- The overflow is read off the operands and their sum at the top selected bit: `overflow-read`. Assumes nothing.
+-- The carries into and out of the top selected bit: `overflow-read`. Assumes nothing.
 use mathlib.Core.Path.{_∙_}
-use native.Mathlib.Omega.{arith}
 use Rattle.bits.proofs.Adder.{overflow-read}
 use borrow.Author.Needs.{needs}
 use Rattle.bits.proofs.overflow.Statement.{statement}
 use Rattle.bits.proofs.overflow.Tie as tie
 
+low-requires : tie.Need-low-requires
+low-requires c κs = search needs
+
 sign-requires : tie.Need-sign-requires
 sign-requires c κs = search needs
 
 returns : tie.Need-returns
-returns c = c .sign .ensures ∙ overflow-read (c .before .args .n) (c .before .args .a) (c .before .args .b) (c .before .args .c) (c .before .args .s) (omega arith) (omega arith) (omega arith) (c .before .pre .3)
+returns c =
+    let x = c .before .before .args in
+    let p = c .before .before .pre in
+    c .sign .ensures ∙ rw (c .before .low .ensures, p .3) (overflow-read (x .n) (x .a) (x .b) (x .c) (p .0) (p .1) (p .2))
 
 pub overflow-spec : {M : Type 1} → statement M
-overflow-spec = tie.close (tie.spec sign-requires returns)
+overflow-spec = tie.close (tie.spec low-requires sign-requires returns)

@@ -10,6 +10,9 @@ use borrow.Author.Needs.{needs}
 use Rattle.divide.proofs.correct_remainder.Statement.{statement}
 use Rattle.divide.proofs.correct_remainder.Tie as tie
 
+held-requires : tie.Need-held-requires
+held-requires c κs = search needs
+
 remainder-test-requires : tie.Need-remainder-test-requires
 remainder-test-requires c κs = search needs
 
@@ -17,7 +20,7 @@ returns : tie.Need-returns
 unfolding REMCORR
 returns c =
     let t : remainderTest (c .before .before .before .args .x) ≡ 0 = sym (c .before .remainder-test .ensures) ∙ c .if1 .taken in
-    rw (choose-zero _ _ _ t, choose-zero _ _ _ t, merged-same)
+    rw (c .before .before .held .ensures, choose-zero _ _ _ t, choose-zero _ _ _ t, merged-same)
 
 bits-requires : tie.Need-bits-requires
 bits-requires c κs = search needs
@@ -34,9 +37,9 @@ returns-2 c =
     let x : Inputs = c .before .before .before .before .before .before .args .x in
     let h = bits-le x (c .before .before .before .before .before .before .pre) in
     let t : remainderTest x ≡ 0 → ⊥ = λ e. c .before .before .before .if1 .left (c .before .before .before .before .remainder-test .ensures ∙ e) in
-    rw (c .merge .ensures, c .before .form .ensures .0, c .before .form .ensures .1, c .before .before .bits .ensures .0, merged-wrap, choose-one _ _ _ t, choose-one _ _ _ t)
+    rw (c .merge .ensures, c .before .form .ensures .0, c .before .form .ensures .1, c .before .before .bits .ensures .0, c .before .before .before .before .before .held .ensures, merged-wrap, choose-one _ _ _ t, choose-one _ _ _ t)
 
 pub correct-remainder-spec : {M : Type 1} → statement M
 correct-remainder-spec =
     tie.close
-    (tie.spec remainder-test-requires returns bits-requires form-requires merge-requires returns-2)
+    (tie.spec held-requires remainder-test-requires returns bits-requires form-requires merge-requires returns-2)

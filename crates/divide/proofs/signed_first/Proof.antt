@@ -25,6 +25,9 @@ shift-up-requires c κs = search needs
 result-requires : tie.Need-result-requires
 result-requires c κs = search needs
 
+held-requires : tie.Need-held-requires
+held-requires c κs = search needs
+
 shift-q-requires : tie.Need-shift-q-requires
 shift-q-requires c κs = search needs
 
@@ -32,7 +35,7 @@ returns : tie.Need-returns
 unfolding SDIVFIRST
 returns c =
     let h = bits-le (c .before .before .before .before .before .before .before .before .args .x) (c .before .before .before .before .before .before .before .before .pre) in
-    rw (c .shift-q .ensures, c .before .before .result .ensures, c .before .before .before .shift-up .ensures, c .before .before .before .before .sign-q .ensures .0, c .before .before .before .before .before .sign .ensures, c .before .before .before .before .before .before .bits .ensures .0, c .before .before .before .before .before .before .before .signed-bit .ensures .0, merged-wrap, zero-wrap, sign-wrap)
+    rw (c .shift-q .ensures, c .before .held .ensures, c .before .before .result .ensures, c .before .before .before .shift-up .ensures, c .before .before .before .before .sign-q .ensures .0, c .before .before .before .before .before .sign .ensures, c .before .before .before .before .before .before .bits .ensures .0, c .before .before .before .before .before .before .before .signed-bit .ensures .0, merged-wrap, zero-wrap, sign-wrap)
 
 pub signed-first-spec : {M : Type 1} → statement M
 signed-first-spec =
@@ -44,5 +47,5 @@ signed-first-spec =
     sign-q-requires
     shift-up-requires
     result-requires
-    shift-q-requires
+    held-requires shift-q-requires
     returns)

@@ -16,6 +16,9 @@ form-requires c κs = search needs
 result-requires : tie.Need-result-requires
 result-requires c κs = search needs
 
+held-requires : tie.Need-held-requires
+held-requires c κs = search needs
+
 signed-bit-requires : tie.Need-signed-bit-requires
 signed-bit-requires c κs = search needs
 
@@ -26,7 +29,7 @@ returns : tie.Need-returns
 unfolding SDIVLAST1
 returns c =
     let h = bits-le (c .before .before .before .before .before .before .args .x) (c .before .before .before .before .before .before .pre) in
-    rw (c .shift-q .ensures, c .before .signed-bit .ensures .0, c .before .before .before .result .ensures, c .before .before .before .before .form .ensures .0, c .before .before .before .before .form .ensures .1, c .before .before .before .before .before .bits .ensures .0, merged-wrap, zero-wrap, sign-wrap)
+    rw (c .shift-q .ensures, c .before .signed-bit .ensures .0, c .before .before .held .ensures, c .before .before .before .result .ensures, c .before .before .before .before .form .ensures .0, c .before .before .before .before .form .ensures .1, c .before .before .before .before .before .bits .ensures .0, merged-wrap, zero-wrap, sign-wrap)
 
 pub signed-last-1-spec : {M : Type 1} → statement M
 signed-last-1-spec =
@@ -35,6 +38,6 @@ signed-last-1-spec =
     bits-requires
     form-requires
     result-requires
-    signed-bit-requires
+    held-requires signed-bit-requires
     shift-q-requires
     returns)

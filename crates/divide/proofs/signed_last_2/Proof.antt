@@ -18,6 +18,9 @@ operand-requires c κs = search needs
 add-requires : tie.Need-add-requires
 add-requires c κs = search needs
 
+held-requires : tie.Need-held-requires
+held-requires c κs = search needs
+
 zero-if-negative-requires : tie.Need-zero-if-negative-requires
 zero-if-negative-requires c κs = search needs
 
@@ -31,7 +34,7 @@ returns : tie.Need-returns
 unfolding SDIVLAST2
 returns c =
     let h = bits-le (c .before .before .before .before .before .before .before .before .args .x) (c .before .before .before .before .before .before .before .before .pre) in
-    rw (c .merge .ensures, c .before .bits .ensures .0, c .before .before .zero-if-negative .ensures, c .before .before .before .before .add .ensures, c .before .before .before .before .before .operand .ensures, c .before .before .before .before .before .before .before .sign-q .ensures .0, merged-wrap, zero-wrap)
+    rw (c .merge .ensures, c .before .bits .ensures .0, c .before .before .zero-if-negative .ensures, c .before .before .before .held .ensures, c .before .before .before .before .add .ensures, c .before .before .before .before .before .operand .ensures, c .before .before .before .before .before .before .before .sign-q .ensures .0, merged-wrap, zero-wrap)
 
 pub signed-last-2-spec : {M : Type 1} → statement M
 signed-last-2-spec =
@@ -41,7 +44,7 @@ signed-last-2-spec =
     add-sign
     operand-requires
     add-requires
-    zero-if-negative-requires
+    held-requires zero-if-negative-requires
     bits-requires
     merge-requires
     returns)

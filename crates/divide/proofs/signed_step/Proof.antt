@@ -25,6 +25,9 @@ shift-up-requires c κs = search needs
 result-requires : tie.Need-result-requires
 result-requires c κs = search needs
 
+held-requires : tie.Need-held-requires
+held-requires c κs = search needs
+
 sign-requires : tie.Need-sign-requires
 sign-requires c κs = search needs
 
@@ -35,7 +38,7 @@ returns : tie.Need-returns
 unfolding SDIVSTEP
 returns c =
     let h = bits-le (c .before .before .before .before .before .before .before .before .before .args .x) (c .before .before .before .before .before .before .before .before .before .pre) in
-    rw (c .shift-q .ensures, c .before .sign .ensures, c .before .before .before .result .ensures, c .before .before .before .before .shift-up .ensures, c .before .before .before .before .before .sign-q .ensures .0, c .before .before .before .before .before .before .signed-bit .ensures .0, c .before .before .before .before .before .before .before .form .ensures .0, c .before .before .before .before .before .before .before .form .ensures .1, c .before .before .before .before .before .before .before .before .bits .ensures .0, up-wrap, merged-wrap, zero-wrap, sign-wrap, sign-wrap)
+    rw (c .shift-q .ensures, c .before .sign .ensures, c .before .before .held .ensures, c .before .before .before .result .ensures, c .before .before .before .before .shift-up .ensures, c .before .before .before .before .before .sign-q .ensures .0, c .before .before .before .before .before .before .signed-bit .ensures .0, c .before .before .before .before .before .before .before .form .ensures .0, c .before .before .before .before .before .before .before .form .ensures .1, c .before .before .before .before .before .before .before .before .bits .ensures .0, up-wrap, merged-wrap, zero-wrap, sign-wrap, sign-wrap)
 
 pub signed-step-spec : {M : Type 1} → statement M
 signed-step-spec =
@@ -47,6 +50,6 @@ signed-step-spec =
     sign-q-requires
     shift-up-requires
     result-requires
-    sign-requires
+    held-requires sign-requires
     shift-q-requires
     returns)

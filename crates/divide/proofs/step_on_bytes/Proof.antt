@@ -11,6 +11,9 @@ bits-requires c κs = search needs
 shift-up-requires : tie.Need-shift-up-requires
 shift-up-requires c κs = search needs
 
+held-requires : tie.Need-held-requires
+held-requires c κs = search needs
+
 is-zero-requires : tie.Need-is-zero-requires
 is-zero-requires c κs = search needs
 
@@ -23,7 +26,7 @@ merge-requires c κs = search needs
 returns : tie.Need-returns
 returns c =
     let h = bits-le (c .before .before .before .before .before .before .args .x) (c .before .before .before .before .before .before .pre .0) in
-    rw (c .merge .ensures, c .before .sign .ensures, c .before .before .is-zero .ensures, c .before .before .before .before .shift-up .ensures, c .before .before .before .before .before .bits .ensures .0, merged-wrap, zero-wrap)
+    rw (c .merge .ensures, c .before .sign .ensures, c .before .before .is-zero .ensures, c .before .before .before .held .ensures, c .before .before .before .before .shift-up .ensures, c .before .before .before .before .before .bits .ensures .0, merged-wrap, zero-wrap)
 
 pub step-on-bytes-spec : {M : Type 1} → statement M
 step-on-bytes-spec =
@@ -31,7 +34,7 @@ step-on-bytes-spec =
     (tie.spec
     bits-requires
     shift-up-requires
-    is-zero-requires
+    held-requires is-zero-requires
     sign-requires
     merge-requires
     returns)

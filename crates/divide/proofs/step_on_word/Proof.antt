@@ -12,6 +12,9 @@ form-requires c κs = search needs
 shift-up-requires : tie.Need-shift-up-requires
 shift-up-requires c κs = search needs
 
+held-requires : tie.Need-held-requires
+held-requires c κs = search needs
+
 is-zero-requires : tie.Need-is-zero-requires
 is-zero-requires c κs = search needs
 
@@ -21,8 +24,8 @@ sign-requires c κs = search needs
 returns : tie.Need-returns
 returns c =
     let h : 32 ≤ 32 = omega arith in
-    rw (c .sign .ensures, c .before .is-zero .ensures, c .before .before .before .shift-up .ensures, c .before .before .before .before .form .ensures .0, c .before .before .before .before .form .ensures .1, up-wrap, sign-wrap)
+    rw (c .sign .ensures, c .before .is-zero .ensures, c .before .before .held .ensures, c .before .before .before .shift-up .ensures, c .before .before .before .before .form .ensures .0, c .before .before .before .before .form .ensures .1, up-wrap, sign-wrap)
 
 pub step-on-word-spec : {M : Type 1} → statement M
 step-on-word-spec =
-    tie.close (tie.spec form-requires shift-up-requires is-zero-requires sign-requires returns)
+    tie.close (tie.spec form-requires shift-up-requires held-requires is-zero-requires sign-requires returns)

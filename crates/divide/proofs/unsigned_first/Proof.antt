@@ -16,6 +16,9 @@ shift-up-requires c κs = search needs
 result-requires : tie.Need-result-requires
 result-requires c κs = search needs
 
+held-requires : tie.Need-held-requires
+held-requires c κs = search needs
+
 bits-requires : tie.Need-bits-requires
 bits-requires c κs = search needs
 
@@ -29,7 +32,7 @@ returns : tie.Need-returns
 unfolding UDIVFIRST
 returns c =
     let h = bits-le (c .before .before .before .before .before .before .before .args .x) (c .before .before .before .before .before .before .before .pre) in
-    rw (c .shift-q .ensures, c .before .sign .ensures, c .before .before .bits .ensures .0, c .before .before .before .before .result .ensures, c .before .before .before .before .before .shift-up .ensures, c .before .before .before .before .before .before .sign-q .ensures .0, merged-wrap, zero-wrap, sign-wrap)
+    rw (c .shift-q .ensures, c .before .sign .ensures, c .before .before .bits .ensures .0, c .before .before .before .held .ensures, c .before .before .before .before .result .ensures, c .before .before .before .before .before .shift-up .ensures, c .before .before .before .before .before .before .sign-q .ensures .0, merged-wrap, zero-wrap, sign-wrap)
 
 pub unsigned-first-spec : {M : Type 1} → statement M
 unsigned-first-spec =
@@ -38,7 +41,7 @@ unsigned-first-spec =
     sign-q-requires
     shift-up-requires
     result-requires
-    bits-requires
+    held-requires bits-requires
     sign-requires
     shift-q-requires
     returns)

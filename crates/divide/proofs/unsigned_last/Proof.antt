@@ -15,6 +15,9 @@ form-requires c κs = search needs
 unsigned-bit-requires : tie.Need-unsigned-bit-requires
 unsigned-bit-requires c κs = search needs
 
+held-requires : tie.Need-held-requires
+held-requires c κs = search needs
+
 extended-sign-requires : tie.Need-extended-sign-requires
 extended-sign-requires c κs = search needs
 
@@ -31,7 +34,7 @@ returns : tie.Need-returns
 unfolding UDIVLAST
 returns c =
     let h = bits-le (c .before .before .before .before .before .before .before .before .args .x) (c .before .before .before .before .before .before .before .before .pre) in
-    rw (c .shift-q .ensures, c .before .merge .ensures, c .before .before .is-zero .ensures, c .before .before .before .extended-sign .ensures .0, c .before .before .before .before .before .unsigned-bit .ensures .0, c .before .before .before .before .before .before .form .ensures .0, c .before .before .before .before .before .before .form .ensures .1, c .before .before .before .before .before .before .before .bits .ensures .0, merged-wrap, zero-wrap)
+    rw (c .shift-q .ensures, c .before .merge .ensures, c .before .before .is-zero .ensures, c .before .before .before .extended-sign .ensures .0, c .before .before .before .before .held .ensures, c .before .before .before .before .before .unsigned-bit .ensures .0, c .before .before .before .before .before .before .form .ensures .0, c .before .before .before .before .before .before .form .ensures .1, c .before .before .before .before .before .before .before .bits .ensures .0, merged-wrap, zero-wrap)
 
 pub unsigned-last-spec : {M : Type 1} → statement M
 unsigned-last-spec =
@@ -40,7 +43,7 @@ unsigned-last-spec =
     bits-requires
     form-requires
     unsigned-bit-requires
-    extended-sign-requires
+    held-requires extended-sign-requires
     is-zero-requires
     merge-requires
     shift-q-requires

@@ -16,6 +16,9 @@ spread-requires c κs = search needs
 merge-requires : tie.Need-merge-requires
 merge-requires c κs = search needs
 
+held-requires : tie.Need-held-requires
+held-requires c κs = search needs
+
 is-zero-requires : tie.Need-is-zero-requires
 is-zero-requires c κs = search needs
 
@@ -24,7 +27,7 @@ sign-requires-2 c κs = search needs
 
 returns : tie.Need-returns
 unfolding signExtend
-returns c = rw (c .sign2 .ensures, c .before .is-zero .ensures, c .before .before .before .merge .ensures, c .before .before .before .before .spread .ensures, c .before .before .before .before .before .sign .ensures, c .before .before .before .before .before .before .bits .ensures .0)
+returns c = rw (c .sign2 .ensures, c .before .is-zero .ensures, c .before .before .held .ensures, c .before .before .before .merge .ensures, c .before .before .before .before .spread .ensures, c .before .before .before .before .before .sign .ensures, c .before .before .before .before .before .before .bits .ensures .0)
 
 pub sign-extend-spec : {M : Type 1} → statement M
 sign-extend-spec =
@@ -34,6 +37,6 @@ sign-extend-spec =
     sign-requires
     spread-requires
     merge-requires
-    is-zero-requires
+    held-requires is-zero-requires
     sign-requires-2
     returns)

@@ -1,7 +1,8 @@
 -- The first partial product, shifted. Assumes nothing.
-use Prim.Native.Nat.{_+_}
+use Prim.Native.Nat.{_+_, _^_}
+use native.Mathlib.Nat.{zero-mod}
 use native.Mathlib.Omega.{arith}
-use lib.Pow.{pow-pos}
+use Rattle.machine.specs.Inputs.{bitsOf}
 use Rattle.multiply.specs.Multiply.{firstStep}
 use borrow.Author.Needs.{needs}
 use Rattle.multiply.proofs.first_step.Statement.{statement}
@@ -11,14 +12,14 @@ bits-requires : tie.Need-bits-requires
 bits-requires c κs = search needs
 
 partial-requires : tie.Need-partial-requires
-partial-requires c κs = (omega arith, omega arith, rw (c .bits .ensures .0) (c .before .pre .1), pow-pos (c .bits .result + 2), omega arith)
+partial-requires c κs = (omega arith, c .before .pre .1, omega arith, omega arith)
 
 shifted-by-2-requires : tie.Need-shifted-by-2-requires
 shifted-by-2-requires c κs = search needs
 
 returns : tie.Need-returns
 unfolding firstStep
-returns c = rw (c .shifted-by-2 .ensures, c .before .partial .ensures .0, c .before .before .bits .ensures .0)
+returns c = rw (c .shifted-by-2 .ensures, c .before .partial .ensures, c .before .before .bits .ensures .0, zero-mod (2 ^ (bitsOf (c .before .before .before .args .x) + 2)))
 
 pub first-step-spec : {M : Type 1} → statement M
 first-step-spec = tie.close (tie.spec bits-requires partial-requires shifted-by-2-requires returns)

@@ -19,6 +19,9 @@ mul-add c = omega (arith, once (c .before .before .args .x .status .m) (c .befor
 add-requires : tie.Need-add-requires
 add-requires c κs = search needs
 
+held-requires : tie.Need-held-requires
+held-requires c κs = search needs
+
 is-zero-requires : tie.Need-is-zero-requires
 is-zero-requires c κs = search needs
 
@@ -29,9 +32,9 @@ returns : tie.Need-returns
 unfolding UMULLAST
 returns c =
     let h : bitsOf (c .before .before .before .before .before .before .args .x) ≤ 32 = selected-bounds _ (c .before .before .before .before .before .before .pre .code) .1 in
-    rw (c .merge .ensures, c .before .is-zero .ensures, c .before .before .before .add .ensures, once-more _ _ _ (c .before .before .before .before .before .before .pre .status .m), c .before .before .before .before .before .bits .ensures .0)
+    rw (c .merge .ensures, c .before .is-zero .ensures, c .before .before .held .ensures, c .before .before .before .add .ensures, once-more _ _ _ (c .before .before .before .before .before .before .pre .status .m), c .before .before .before .before .before .bits .ensures .0)
     (rw (merged-wrap _ _ _ h, zero-wrap _ _ h))
 
 pub last-spec : {M : Type 1} → statement M
 last-spec =
-    tie.close (tie.spec bits-requires mul-add add-requires is-zero-requires merge-requires returns)
+    tie.close (tie.spec bits-requires mul-add add-requires held-requires is-zero-requires merge-requires returns)

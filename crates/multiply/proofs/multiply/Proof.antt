@@ -11,10 +11,8 @@ pub multiply-spec : {M : Type 1} → statement M
 multiply-spec =
     tie.close
     (tie.spec
-    (search needs) (search needs) (λ c κs. (search needs, rw (← c .before .before .bits .ensures .0) (search needs))) (search needs)
-    (λ c κs. (search needs, rw (← c .before .before .bits .ensures .0) (search needs))) (search needs) (search needs)
-    (λ c κs. (search needs, rw (← c .before .before .bits .ensures .0) (search needs))) (search needs)
-    (λ c κs. (search needs, rw (← c .before .before .bits .ensures .0) (search needs)))
+    (search needs) (search needs) (search needs) (search needs) (search needs) (search needs) (search needs) (search needs) (search needs)
+    (search needs)
     (λ c. rw (c .before .before .match .keys1) (cc)) (λ c. rw (c .before .before .match .keys2) (cc))
     (λ c. rw (c .before .match .keys3) (c .last .ensures)) (λ c. rw (c .before .before .match .keys4) (cc))
     (λ c. rw (last-entry multiplies SMULFIRST 4 _ refl (c .before .before .match .rest)) (cc)))

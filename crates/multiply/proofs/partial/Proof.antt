@@ -1,9 +1,6 @@
 -- The row's multiple of A* is `picked`, modulo the extended width. Assumes nothing.
-use Prim.Native.Nat.{_+_, _-_, _*_, _^_, _≤_}
-use native.Mathlib.Nat.{mod-lt}
 use native.Mathlib.Omega.{arith}
-use lib.Pow.{pow-pos}
-use Rattle.multiply.proofs.Bounds.{word-le, extra, extra-one}
+use Prim.Native.Nat.{_*_, _≤_}
 use Rattle.multiply.proofs.Rows.{added-le, taken-le, picked}
 use borrow.Author.Needs.{needs}
 use Rattle.multiply.proofs.partial.Statement.{statement}
@@ -16,51 +13,40 @@ wide-requires : tie.Need-wide-requires
 wide-requires c κs = search needs
 
 mul-added : tie.Need-mul-added
-mul-added c = rw (c .wide .ensures) (omega (arith, added-le (c .before .args .q) (c .before .args .m) (c .before .args .a) (omega arith), word-le (c .before .args .n) (omega arith), extra (c .before .args .n)))
+mul-added c = rw (c .wide .ensures) (omega (arith, added-le (c .before .args .q) (c .before .args .m) (c .before .args .a) (omega arith)))
 
 wide-requires-2 : tie.Need-wide-requires-2
 wide-requires-2 c κs = search needs
 
-add-weight : tie.Need-add-weight
-add-weight c = search needs
+added : (c : tie.After-wide2) → c .before .wide .result * c .before .before .args .a ≤ 2 * c .before .before .args .a
+added c = rw (c .before .wide .ensures) (added-le (c .before .before .args .q) (c .before .before .args .m) (c .before .before .args .a) (omega arith))
 
-weight-requires : tie.Need-weight-requires
-weight-requires c κs = search needs
-
-added : (c : tie.After-weight) → c .before .before .wide .result * c .before .before .before .args .a ≤ 2 * c .before .before .before .args .a
-added c = rw (c .before .before .wide .ensures) (added-le (c .before .before .before .args .q) (c .before .before .before .args .m) (c .before .before .before .args .a) (omega arith))
-
-taken : (c : tie.After-weight) → c .before .wide2 .result * (c .weight .result - 2 * c .before .before .before .args .a) ≤ 1 * (c .weight .result - 2 * c .before .before .before .args .a)
-taken c = rw (c .before .wide2 .ensures) (taken-le (c .before .before .before .args .q) (c .weight .result - 2 * c .before .before .before .args .a))
+taken : (c : tie.After-wide2) → c .wide2 .result * (2 * c .before .before .args .a) ≤ 1 * (2 * c .before .before .args .a)
+taken c = rw (c .wide2 .ensures) (taken-le (c .before .before .args .q) (2 * c .before .before .args .a))
 
 mul-taken : tie.Need-mul-taken
-mul-taken c = omega (arith, word-le (c .before .before .before .args .n) (omega arith), extra (c .before .before .before .args .n))
-
-sub-taken : tie.Need-sub-taken
-sub-taken c = omega (arith, c .weight .ensures, extra (c .before .before .before .args .n), extra-one (c .before .before .before .args .n))
+mul-taken c = search needs
 
 mul-taken-2 : tie.Need-mul-taken-2
-mul-taken-2 c = omega (arith, taken c, c .weight .ensures, word-le (c .before .before .before .args .n) (omega arith), extra-one (c .before .before .before .args .n))
+mul-taken-2 c = omega (arith, taken c)
 
-add-low-bits : tie.Need-add-low-bits
-add-low-bits c = omega (arith, added c, word-le (c .before .before .before .args .n) (omega arith), extra (c .before .before .before .args .n))
+add-result : tie.Need-add-result
+add-result c = omega (arith, added c)
 
-add-low-bits-2 : tie.Need-add-low-bits-2
-add-low-bits-2 c = omega (arith, added c, taken c, c .weight .ensures, word-le (c .before .before .before .args .n) (omega arith), extra (c .before .before .before .args .n), extra-one (c .before .before .before .args .n))
+mul-result : tie.Need-mul-result
+mul-result c = search needs
 
-add-low-bits-3 : tie.Need-add-low-bits-3
-add-low-bits-3 c = search needs
+sub-result : tie.Need-sub-result
+sub-result c = omega (arith, taken c)
 
-low-bits-requires : tie.Need-low-bits-requires
-low-bits-requires c κs = search needs
+add-result-2 : tie.Need-add-result-2
+add-result-2 c = omega (arith, added c)
 
 returns : tie.Need-returns
 returns c =
-    let e : 2 * c .before .before .before .before .args .a ≤ 2 ^ (c .before .before .before .before .args .n + 3) = omega (arith, extra (c .before .before .before .before .args .n), extra-one (c .before .before .before .before .args .n)) in (
-      rw (c .low-bits .ensures, c .before .weight .ensures, c .before .before .wide2 .ensures, c .before .before .before .wide .ensures)
-          (picked (c .before .before .before .before .args .n) (c .before .before .before .before .args .a) (c .before .before .before .before .args .b) (c .before .before .before .before .args .q) (c .before .before .before .before .args .m) (omega arith) e),
-      rw (c .low-bits .ensures) (mod-lt _ (pow-pos (c .before .before .before .before .args .n + 2))),
-    )
+    let x = c .before .before .args in
+    let p = c .before .before .pre in
+    rw (c .wide2 .ensures, c .before .wide .ensures) (picked (x .n) (x .a) (x .b) (x .q) (x .m) (p .0) (p .3) (p .1))
 
 pub partial-spec : {M : Type 1} → statement M
 partial-spec =
@@ -70,13 +56,10 @@ partial-spec =
     wide-requires
     mul-added
     wide-requires-2
-    add-weight
-    weight-requires
     mul-taken
-    sub-taken
     mul-taken-2
-    add-low-bits
-    add-low-bits-2
-    add-low-bits-3
-    low-bits-requires
+    add-result
+    mul-result
+    sub-result
+    add-result-2
     returns)

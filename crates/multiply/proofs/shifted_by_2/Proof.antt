@@ -1,56 +1,52 @@
--- F* fits a word once it is two bits down, and the two fill bits stand above what is left of Q. Assumes nothing.
-use mathlib.Core.Path.{_≡_, _∙_}
-use Prim.Native.Nat.{_-_, _*_, _%_, _^_}
+-- Y takes n bits of F* above the fill, which is its low two bits: `down-cut`, `fill-cut`. Assumes nothing.
 use native.Mathlib.Omega.{arith}
-use Rattle.multiply.proofs.Bounds.{word-le, extra, fill-exact, filled-lt}
+use mathlib.Core.Path.{_≡_, sym}
+use Prim.Native.Nat.{_%_, _^_}
+use native.Mathlib.Nat.{mod-eq-of-lt}
+use Rattle.bits.proofs.Laws.{merged-wrap}
+use Rattle.machine.specs.Inputs.{bitsOf}
+use Rattle.multiply.proofs.Bounds.{down-cut, fill-cut, merged-cut}
 use borrow.Author.Needs.{needs}
 use Rattle.multiply.proofs.shifted_by_2.Statement.{statement}
 use Rattle.multiply.proofs.shifted_by_2.Tie as tie
 
-sub-up : tie.Need-sub-up
-sub-up c = search needs
-
-cast-up : tie.Need-cast-up
-cast-up c = search needs
-
-up-requires : tie.Need-up-requires
-up-requires c κs = search needs
+held-requires : tie.Need-held-requires
+held-requires c κs = search needs
 
 bit-requires : tie.Need-bit-requires
 bit-requires c κs = search needs
 
-cast-merge : tie.Need-cast-merge
-cast-merge c = omega (arith, word-le (c .before .before .before .args .n) (omega arith), extra (c .before .before .before .args .n))
+low-requires : tie.Need-low-requires
+low-requires c κs = search needs
 
 merge-requires : tie.Need-merge-requires
 merge-requires c κs = search needs
 
-cut-requires : tie.Need-cut-requires
-cut-requires c κs = search needs
+low-requires-2 : tie.Need-low-requires-2
+low-requires-2 c κs = search needs
 
-fill : (c : tie.After-cut) → c .before .before .before .before .up .result ≡ c .before .before .before .before .before .args .f % 4 * 2 ^ (c .before .before .before .before .before .args .n - 2)
-fill c = c .before .before .before .before .up .ensures ∙ fill-exact (c .before .before .before .before .before .args .n) (c .before .before .before .before .before .args .f) (omega arith) (omega arith)
-
-add-merge : tie.Need-add-merge
-add-merge c = omega (arith, fill c, c .cut .ensures, filled-lt (c .before .before .before .before .before .args .n) (c .before .before .before .before .before .args .x .q) (c .before .before .before .before .before .args .f) (omega arith) (omega arith))
+down-by-2-requires : tie.Need-down-by-2-requires
+down-by-2-requires c κs = search needs
 
 merge-requires-2 : tie.Need-merge-requires-2
 merge-requires-2 c κs = search needs
 
 returns : tie.Need-returns
-returns c = rw (c .merge2 .ensures, fill (c .before), c .before .cut .ensures, c .before .before .merge .ensures, c .before .before .before .bit .ensures, c .before .before .before .before .before .before .pre .0)
+returns c =
+    let x = c .before .before .before .before .before .before .before .args in
+    let p = c .before .before .before .before .before .before .before .pre in
+    let w : x .f % 4 % 2 ^ 32 ≡ x .f % 4 = mod-eq-of-lt (omega arith) in
+    rw (c .merge2 .ensures, c .before .down-by-2 .ensures, c .before .before .low2 .ensures, c .before .before .before .merge .ensures, c .before .before .before .before .low .ensures, c .before .before .before .before .before .bit .ensures, c .before .before .before .before .before .before .held .ensures, w, merged-wrap (x .n) _ _ (p .2), p .0, fill-cut (bitsOf (x .x)) (x .f), down-cut (bitsOf (x .x)) (x .f), merged-cut (bitsOf (x .x)) _ _)
 
 pub shifted-by-2-spec : {M : Type 1} → statement M
 shifted-by-2-spec =
     tie.close
     (tie.spec
-    sub-up
-    cast-up
-    up-requires
+    held-requires
     bit-requires
-    cast-merge
+    low-requires
     merge-requires
-    cut-requires
-    add-merge
+    low-requires-2
+    down-by-2-requires
     merge-requires-2
     returns)

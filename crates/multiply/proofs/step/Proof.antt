@@ -12,14 +12,14 @@ sign-extended-requires : tie.Need-sign-extended-requires
 sign-extended-requires c κs = search needs
 
 partial-requires : tie.Need-partial-requires
-partial-requires c κs = (omega arith, omega arith, rw (c .before .bits .ensures .0) (c .before .before .pre .1), c .sign-extended .ensures .1, omega arith)
+partial-requires c κs = (omega arith, c .before .before .pre .1, c .sign-extended .ensures .1, omega arith)
 
 shifted-by-2-requires : tie.Need-shifted-by-2-requires
 shifted-by-2-requires c κs = search needs
 
 returns : tie.Need-returns
 unfolding step
-returns c = rw (c .shifted-by-2 .ensures, c .before .partial .ensures .0, c .before .before .sign-extended .ensures .0, c .before .before .before .bits .ensures .0)
+returns c = rw (c .shifted-by-2 .ensures, c .before .partial .ensures, c .before .before .sign-extended .ensures .0, c .before .before .before .bits .ensures .0)
 
 pub step-spec : {M : Type 1} → statement M
 step-spec =

@@ -13,9 +13,12 @@ downshifted-requires c κs = search needs
 result-requires : tie.Need-result-requires
 result-requires c κs = search needs
 
+held-requires : tie.Need-held-requires
+held-requires c κs = search needs
+
 returns : tie.Need-returns
 unfolding down
-returns c = rw (c .before .result .ensures, c .before .before .downshifted .ensures, c .before .before .before .bits .ensures .0)
+returns c = rw (c .held .ensures, c .before .result .ensures, c .before .before .downshifted .ensures, c .before .before .before .bits .ensures .0)
 
 pub down-spec : {M : Type 1} → statement M
-down-spec = tie.close (tie.spec bits-requires downshifted-requires result-requires returns)
+down-spec = tie.close (tie.spec bits-requires downshifted-requires result-requires held-requires returns)

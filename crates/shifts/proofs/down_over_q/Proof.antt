@@ -10,6 +10,9 @@ bits-requires c κs = search needs
 down-requires : tie.Need-down-requires
 down-requires c κs = search needs
 
+held-requires : tie.Need-held-requires
+held-requires c κs = search needs
+
 downshifted-requires : tie.Need-downshifted-requires
 downshifted-requires c κs = search needs
 
@@ -18,8 +21,8 @@ merge-requires c κs = search needs
 
 returns : tie.Need-returns
 unfolding down downQ
-returns c = rw (c .merge .ensures, c .before .downshifted .ensures, c .before .before .before .down .ensures, c .before .before .before .before .bits .ensures .0)
+returns c = rw (c .merge .ensures, c .before .downshifted .ensures, c .before .before .held .ensures, c .before .before .before .down .ensures, c .before .before .before .before .bits .ensures .0)
 
 pub down-over-q-spec : {M : Type 1} → statement M
 down-over-q-spec =
-    tie.close (tie.spec bits-requires down-requires downshifted-requires merge-requires returns)
+    tie.close (tie.spec bits-requires down-requires held-requires downshifted-requires merge-requires returns)

@@ -21,6 +21,9 @@ result-requires c κs = search needs
 sign-requires : tie.Need-sign-requires
 sign-requires c κs = search needs
 
+held-requires : tie.Need-held-requires
+held-requires c κs = search needs
+
 sign-requires-2 : tie.Need-sign-requires-2
 sign-requires-2 c κs = search needs
 
@@ -33,7 +36,7 @@ returns c =
     let x = c .before .before .before .before .before .before .args .x in
     let h : bitsOf x ≤ 32 = bits-le x (c .before .before .before .before .before .before .pre .0) in
     let i : bitsOf x - 1 < 32 = omega arith in
-    rw (c .sign2 .ensures, c .before .before .sign .ensures, c .before .before .before .result .ensures, c .before .before .before .before .upshifted .ensures, c .before .before .before .before .before .bits .ensures .0, merged-wrap, zero-wrap, bit-wrap)
+    rw (c .sign2 .ensures, c .before .held .ensures, c .before .before .sign .ensures, c .before .before .before .result .ensures, c .before .before .before .before .upshifted .ensures, c .before .before .before .before .before .bits .ensures .0, merged-wrap, zero-wrap, bit-wrap)
 
 pub up-spec : {M : Type 1} → statement M
 up-spec =
@@ -43,6 +46,6 @@ up-spec =
     upshifted-requires
     result-requires
     sign-requires
-    sign-requires-2
+    held-requires sign-requires-2
     add-status
     returns)

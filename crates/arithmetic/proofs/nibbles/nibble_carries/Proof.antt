@@ -1,84 +1,29 @@
--- One wide sum carries as the digits do, and its carries are read off it: `carries-read`. Assumes nothing.
-use mathlib.Core.Path.{ap₂, _∙_}
-use Prim.Native.Nat.{ℕ, _+_, _*_}
+-- A nibble carries where the binary sum does, and where what is left of it does with six more: `carries-read`. Assumes nothing.
+use mathlib.Core.Path.{ap, _∙_}
+use Prim.Native.Nat.{ℕ, _-_, _/_, _%_, _^_, _<_}
+use native.Mathlib.Nat.{mod-eq-of-lt}
+use native.Mathlib.Omega.{arith}
+use lib.Bits.{bitAnd, bitXor, and-le-l}
+use Rattle.machine.proofs.Nibbles.{apart-le}
+use Rattle.arithmetic.specs.Nibbles.{nibbleCarries}
+use Rattle.arithmetic.proofs.Bounds.{carries-apart}
 use Rattle.arithmetic.proofs.Chains.{carries-read}
 use borrow.Author.Needs.{needs}
 use Rattle.arithmetic.proofs.nibbles.nibble_carries.Statement.{statement}
 use Rattle.arithmetic.proofs.nibbles.nibble_carries.Tie as tie
 
-sub-reaching : tie.Need-sub-reaching
-sub-reaching c = search needs
+add-low : tie.Need-add-low
+add-low c = omega (arith, and-le-l (c .args .s) ((2 ^ 64 - 1) - bitAnd (bitXor (bitXor (c .args .s) (c .args .a)) (c .args .b) / 2 ^ 1) 0x8888_8888))
 
-reaching-requires : tie.Need-reaching-requires
-reaching-requires c κs = search needs
-
-sub-reaching-2 : tie.Need-sub-reaching-2
-sub-reaching-2 c = search needs
-
-reaching-requires-2 : tie.Need-reaching-requires-2
-reaching-requires-2 c κs = search needs
-
-mul-passing : tie.Need-mul-passing
-mul-passing c = search needs
-
-add-passing : tie.Need-add-passing
-add-passing c = search needs
-
-cast-passing : tie.Need-cast-passing
-cast-passing c = search needs
-
-reaching-requires-3 : tie.Need-reaching-requires-3
-reaching-requires-3 c κs = search needs
-
-reaching-requires-4 : tie.Need-reaching-requires-4
-reaching-requires-4 c κs = search needs
-
-mul-making : tie.Need-mul-making
-mul-making c = search needs
-
-add-making : tie.Need-add-making
-add-making c = search needs
-
-cast-making : tie.Need-cast-making
-cast-making c = search needs
-
-mul-gather : tie.Need-mul-gather
-mul-gather c = search needs
-
-add-gather : tie.Need-add-gather
-add-gather c = search needs
-
-add-gather-2 : tie.Need-add-gather-2
-add-gather-2 c = search needs
-
-gather-requires : tie.Need-gather-requires
-gather-requires c κs = search needs
+low-requires : tie.Need-low-requires
+low-requires c κs = search needs
 
 returns : tie.Need-returns
 returns c =
-    c .gather .ensures
-    ∙ carries-read _ _ (c .before .before .before .before .before .args .a) (c .before .before .before .before .before .args .b) (c .before .before .before .before .before .args .c) (c .before .before .before .before .before .pre)
-    (ap₂ (λ (p q : ℕ). p + q * 16) (c .before .before .before .before .reaching .ensures .0) (c .before .before .before .reaching2 .ensures .0))
-    (ap₂ (λ (p q : ℕ). p + q * 16) (c .before .before .reaching3 .ensures .0) (c .before .reaching4 .ensures .0))
+    let x = c .before .args in
+    let p = c .before .pre in
+    let l : nibbleCarries 8 (x .a) (x .b) (x .c) < 2 ^ 32 = omega (arith, apart-le (nibbleCarries 8 (x .a) (x .b) (x .c)) (carries-apart 8 (x .a) (x .b) (x .c))) in
+    c .low .ensures ∙ rw (p .1) (ap (λ (y : ℕ). y % 2 ^ 32) (carries-read (x .a) (x .b) (x .c) (c .before .fits .a .fits) (c .before .fits .b .fits) (p .0)) ∙ mod-eq-of-lt l)
 
 pub nibble-carries-spec : {M : Type 1} → statement M
-nibble-carries-spec =
-    tie.close
-    (tie.spec
-    sub-reaching
-    reaching-requires
-    sub-reaching-2
-    reaching-requires-2
-    mul-passing
-    add-passing
-    cast-passing
-    reaching-requires-3
-    reaching-requires-4
-    mul-making
-    add-making
-    cast-making
-    mul-gather
-    add-gather
-    add-gather-2
-    gather-requires
-    returns)
+nibble-carries-spec = tie.close (tie.spec add-low low-requires returns)

@@ -8,6 +8,9 @@ use Rattle.divide.proofs.steps.form.Tie as tie
 operand-requires : tie.Need-operand-requires
 operand-requires c κs = search needs
 
+sum-requires : tie.Need-sum-requires
+sum-requires c κs = search needs
+
 add-requires : tie.Need-add-requires
 add-requires c κs = search needs
 
@@ -16,10 +19,10 @@ carry-requires c κs = search needs
 
 returns : tie.Need-returns
 returns c = (
-  c .before .add .ensures ∙ rw (c .before .before .operand .ensures),
-  c .carry .ensures ∙ rw (c .before .before .operand .ensures),
-  rw (c .carry .ensures) (carry-lt _ _ _ _ (c .before .before .before .pre .2)),
+  c .before .add .ensures ∙ rw (c .before .before .before .operand .ensures),
+  c .carry .ensures ∙ rw (c .before .before .before .operand .ensures),
+  rw (c .carry .ensures) (carry-lt _ _ _ _ (c .before .before .before .before .pre .2)),
 )
 
 pub form-spec : {M : Type 1} → statement M
-form-spec = tie.close (tie.spec operand-requires add-requires carry-requires returns)
+form-spec = tie.close (tie.spec operand-requires sum-requires add-requires carry-requires returns)

@@ -1,11 +1,14 @@
 -- Each part fits below the next one's weight, and the sum is the definition's. Assumes nothing.
+use mathlib.Core.Path.{_≡_}
+use Prim.Native.Nat.{ℕ, _+_}
+use native.Mathlib.Omega.{arith}
 use Rattle.machine.specs.Status.{asRead}
 use borrow.Author.Needs.{needs}
 use Rattle.machine.proofs.Status.read.Statement.{statement}
 use Rattle.machine.proofs.Status.read.Tie as tie
 
-work-out-requires : tie.Need-work-out-requires
-work-out-requires c κs = search needs
+flags-requires : tie.Need-flags-requires
+flags-requires c κs = search needs
 
 mul-result : tie.Need-mul-result
 mul-result c = search needs
@@ -13,87 +16,55 @@ mul-result c = search needs
 add-result : tie.Need-add-result
 add-result c = search needs
 
-mul-result-2 : tie.Need-mul-result-2
-mul-result-2 c = search needs
-
 add-result-2 : tie.Need-add-result-2
 add-result-2 c = search needs
 
-mul-result-3 : tie.Need-mul-result-3
-mul-result-3 c = search needs
+mul-result-2 : tie.Need-mul-result-2
+mul-result-2 c = search needs
 
 add-result-3 : tie.Need-add-result-3
 add-result-3 c = search needs
 
-mul-result-4 : tie.Need-mul-result-4
-mul-result-4 c = search needs
+mul-result-3 : tie.Need-mul-result-3
+mul-result-3 c = search needs
 
 add-result-4 : tie.Need-add-result-4
 add-result-4 c = search needs
 
-mul-result-5 : tie.Need-mul-result-5
-mul-result-5 c = search needs
+mul-result-4 : tie.Need-mul-result-4
+mul-result-4 c = search needs
 
 add-result-5 : tie.Need-add-result-5
 add-result-5 c = search needs
 
-mul-result-6 : tie.Need-mul-result-6
-mul-result-6 c = search needs
+gather-requires : tie.Need-gather-requires
+gather-requires c κs = search needs
 
 add-result-6 : tie.Need-add-result-6
 add-result-6 c = search needs
 
-mul-result-7 : tie.Need-mul-result-7
-mul-result-7 c = search needs
-
-add-result-7 : tie.Need-add-result-7
-add-result-7 c = search needs
-
-mul-result-8 : tie.Need-mul-result-8
-mul-result-8 c = search needs
-
-add-result-8 : tie.Need-add-result-8
-add-result-8 c = search needs
-
-mul-result-9 : tie.Need-mul-result-9
-mul-result-9 c = search needs
-
-add-result-9 : tie.Need-add-result-9
-add-result-9 c = search needs
-
-mul-result-10 : tie.Need-mul-result-10
-mul-result-10 c = search needs
-
-add-result-10 : tie.Need-add-result-10
-add-result-10 c = search needs
+-- bits 13 to 19 one by one
+regroup : (p w d c n v z l m s b : ℕ) → p + w + (d + c + n + v + z) + l + m + s + b ≡ p + w + d + c + n + v + z + l + m + s + b
+regroup p w d c n v z l m s b = omega arith
 
 returns : tie.Need-returns
 unfolding asRead
-returns c = rw (c .before .before .before .before .before .before .before .before .before .before .work-out .ensures)
+returns c = rw (c .gather .ensures .0, c .before .before .before .before .before .before .flags .ensures .0) (regroup _ _ _ _ _ _ _ _ _ _ _)
 
 pub read-spec : {M : Type 1} → statement M
 read-spec =
     tie.close
     (tie.spec
-    work-out-requires
+    flags-requires
     mul-result
     add-result
-    mul-result-2
     add-result-2
-    mul-result-3
+    mul-result-2
     add-result-3
-    mul-result-4
+    mul-result-3
     add-result-4
-    mul-result-5
+    mul-result-4
     add-result-5
-    mul-result-6
+    gather-requires
     add-result-6
-    mul-result-7
-    add-result-7
-    mul-result-8
-    add-result-8
-    mul-result-9
-    add-result-9
-    mul-result-10
-    add-result-10
     returns)
