@@ -189,16 +189,16 @@ pub fn out_of_range(
 }
 
 // A refusal repeats Q and status as they were handed in.
-fn refuse(s: SingleWord, reason: Reason) -> SingleAnswer
-    ensures { λ r. ⌜ r ≡ refusedAs reason s ⌝ }
+fn refuse(word: SingleWord, reason: Reason) -> SingleAnswer
+    ensures { λ r. ⌜ r ≡ refusedAs reason word ⌝ }
 {
     SingleAnswer {
         reason,
         place: 0,
         y: 0,
         parity: 0,
-        q: s.q,
-        status: s.status,
+        q: word.q,
+        status: word.status,
     }
 }
 
