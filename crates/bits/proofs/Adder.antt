@@ -1,11 +1,11 @@
 -- The adder, bit by bit: a full adder at bit i gives the sum's bit and the carry out of it, so that carry and overflow can be read off the
--- operands and the wrapped sum. Assumes nothing.
-use mathlib.Core.Path.{_≡_, refl, sym, ap, ap₂, _∙_, subst}
-use Prim.Native.Nat.{ℕ, suc, _+_, _-_, _*_, _/_, _%_, _^_, _≤_, _<_, min, max}
-use native.Mathlib.Nat.{mod-lt, mod-eq-of-lt, mul-lt-mul-of-pos-right, lt-of-lt-of-le}
+-- operands and the exact sum. Assumes nothing.
+use mathlib.Core.Path.{_≡_, sym, ap, ap₂, _∙_, subst}
+use Prim.Native.Nat.{ℕ, suc, _+_, _-_, _*_, _/_, _%_, _^_, _≤_, _<_}
+use native.Mathlib.Nat.{mod-lt, mod-eq-of-lt, lt-of-lt-of-le}
 use native.Mathlib.Omega.{arith}
 use lib.Arith.{digits-div}
-use lib.Pow.{pow-pos, pow-add, pow-mono, split, mod-pow-add, shr-shr, shl-shr}
+use lib.Pow.{pow-pos, pow-mono, split, mod-pow-add, shl-lt, shr-shr, shl-shr}
 use lib.Bits.{bitXor, xor-lt}
 use Rattle.bits.specs.Bits.{bitOf, carryOf, overflowOf, xor}
 use Rattle.bits.proofs.Laws.{carry-lt, bit-wrap}
@@ -54,45 +54,39 @@ full-carry i a b c =
     one-plus : 1 + i ≡ suc i
     one-plus = omega arith
 
--- a sum differs from its operands at bit i where a carry came in
-module _ (i a b c : ℕ) (hc : c < 2) where
-  abbrev pub carries : ℕ
-  carries = bitXor (bitXor (a + b + c) a) b
+-- a sum differs from its operands where a carry came in
+abbrev pub carriesIn : ℕ → ℕ → ℕ → ℕ
+carriesIn a b c = bitXor (bitXor (a + b + c) a) b
 
-  pub carry-bit : bitOf i carries ≡ carryOf i a b c
-  carry-bit =
-      bit-xor i (bitXor (a + b + c) a) b
-      ∙ ap (λ (x : ℕ). (x + bitOf i b) % 2) (bit-xor i (a + b + c) a ∙ ap (λ (x : ℕ). (x + bitOf i a) % 2) (full-sum i a b c))
-      ∙ twice (bitOf i a) (bitOf i b) (carryOf i a b c) (carry-lt i a b c hc)
-    where
-      twice : (x y k : ℕ) → k < 2 → (((x + y + k) % 2 + x) % 2 + y) % 2 ≡ k
-      twice x y k h = omega arith
+carry-bit : (i a b c : ℕ) → c < 2 → bitOf i (carriesIn a b c) ≡ carryOf i a b c
+carry-bit i a b c hc =
+    bit-xor i (bitXor (a + b + c) a) b
+    ∙ ap (λ (x : ℕ). (x + bitOf i b) % 2) (bit-xor i (a + b + c) a ∙ ap (λ (x : ℕ). (x + bitOf i a) % 2) (full-sum i a b c))
+    ∙ twice (bitOf i a) (bitOf i b) (carryOf i a b c) (carry-lt i a b c hc)
+  where
+    twice : (x y k : ℕ) → k < 2 → (((x + y + k) % 2 + x) % 2 + y) % 2 ≡ k
+    twice x y k h = omega arith
 
--- and below 2 ^ 33
-pub carries-lt : (a b c : ℕ) → a < 2 ^ 32 → b < 2 ^ 32 → c < 2 → bitXor (bitXor (a + b + c) a) b < 2 ^ 33
+carries-lt : (a b c : ℕ) → a < 2 ^ 32 → b < 2 ^ 32 → c < 2 → carriesIn a b c < 2 ^ 33
 carries-lt a b c ha hb hc = xor-lt 33 (bitXor (a + b + c) a) b (xor-lt 33 (a + b + c) a (omega arith) (omega arith)) (omega arith)
 
 -- bit n, shifted up to bit 32 in 64 bits
-pub carry-read : (n a b c : ℕ) → 1 ≤ n → n ≤ 32 → a < 2 ^ 32 → b < 2 ^ 32 → c < 2
-    → bitXor (bitXor (a + b + c) a) b * 2 ^ (32 - n) % 2 ^ 64 / 2 ^ 32 % 2 ≡ carryOf n a b c
+pub carry-read : (n a b c : ℕ) → 1 ≤ n → n ≤ 32 → a < 2 ^ 32 → b < 2 ^ 32 → c < 2 → carriesIn a b c * 2 ^ (32 - n) % 2 ^ 64 / 2 ^ 32 % 2 ≡ carryOf n a b c
 carry-read n a b c h l ha hb hc =
-    let x : ℕ = bitXor (bitXor (a + b + c) a) b in
+    let x : ℕ = carriesIn a b c in
     let e : (32 - n) + n ≡ 32 = omega arith in
     let k : 33 + (32 - n) ≤ 64 = omega arith in
-    let w : x * 2 ^ (32 - n) < 2 ^ 64 =
-    lt-of-lt-of-le (mul-lt-mul-of-pos-right (carries-lt a b c ha hb hc) (pow-pos (32 - n)))
-    (subst (λ (y : ℕ). y ≤ 2 ^ 64) (pow-add 2 33 (32 - n)) (pow-mono k)) in
+    let w : x * 2 ^ (32 - n) < 2 ^ 64 = lt-of-lt-of-le (shl-lt 33 (32 - n) (carries-lt a b c ha hb hc)) (pow-mono k) in
     ap (λ (y : ℕ). y / 2 ^ 32 % 2) (mod-eq-of-lt w)
     ∙ ap (λ (k : ℕ). x * 2 ^ (32 - n) / 2 ^ k % 2) (sym e)
     ∙ ap (λ (y : ℕ). y % 2) (sym (shr-shr (x * 2 ^ (32 - n)) (32 - n) n) ∙ ap (λ (y : ℕ). y / 2 ^ n) (shl-shr x (32 - n)))
     ∙ carry-bit n a b c hc
 
 -- the bits of two neighbours
-pub overflow-read : (n a b c : ℕ) → 1 ≤ n → n ≤ 32 → c < 2
-    → bitOf (n - 1) (bitXor (bitXor (bitXor (a + b + c) a) b) (bitXor (bitXor (a + b + c) a) b / 2 ^ 1) % 2 ^ 32) ≡ overflowOf n a b c
+pub overflow-read : (n a b c : ℕ) → 1 ≤ n → n ≤ 32 → c < 2 → bitOf (n - 1) (bitXor (carriesIn a b c) (carriesIn a b c / 2 ^ 1) % 2 ^ 32) ≡ overflowOf n a b c
 unfolding overflowOf
 overflow-read n a b c h l hc =
-    let x : ℕ = bitXor (bitXor (a + b + c) a) b in
+    let x : ℕ = carriesIn a b c in
     let e : 1 + (n - 1) ≡ n = omega arith in
     bit-wrap (n - 1) (bitXor x (x / 2 ^ 1)) (omega arith)
     ∙ bit-xor (n - 1) x (x / 2 ^ 1)

@@ -9,7 +9,7 @@ use Rattle.arithmetic.specs.Nibbles.{nibbleCarries, nibbleBorrows}
 use Rattle.sequence.specs.Sequences.{bitsIn}
 use Rattle.sequence.specs.Decimal.{Digits, digitsIn}
 use Rattle.sequence.proofs.Lists.{merged-low, not-cut, cut-sum}
-use Rattle.sequence.proofs.DecimalNumbers.{SumCorrected, sum-end, sums, DiffCorrected, dif-end, difs, pow16-pos, pow16, digits-cut, digits-whole, value-cut, carries-cut, borrows-cut, Low, carries-low, borrows-low, six-low, top-low}
+use Rattle.sequence.proofs.DecimalNumbers.{SumCorrected, sum-end, sums, DiffCorrected, dif-end, difs, pow16-pos, pow16, digits-cut, digits-whole, value-cut, carries-cut, borrows-cut, carries-low, borrows-low, six-low, top-low}
 
 -- ---- Y and its correction, as numbers: k + 1 nibbles are selected, j are not
 sum-whole : (k c p r Y C : ℕ) → SumCorrected k c (p % 16 ^ k) (r % 16 ^ k) (Y % 16 ^ k) C → SumCorrected k c p r Y C

@@ -1,5 +1,5 @@
 -- What the products and masks leave is the bits apart: `spread-law`. Assumes nothing.
-use Prim.Native.Nat.{ℕ, _*_, _≤_}
+use Prim.Native.Nat.{_*_}
 use native.Mathlib.Omega.{arith}
 use lib.Bits.{bitAnd, and-le-r}
 use Rattle.machine.proofs.Nibbles.{spread-law}

@@ -1,6 +1,6 @@
 -- Y takes n bits of F* above the fill, which is its low two bits: `down-cut`, `fill-cut`. Assumes nothing.
 use native.Mathlib.Omega.{arith}
-use mathlib.Core.Path.{_≡_, sym}
+use mathlib.Core.Path.{_≡_}
 use Prim.Native.Nat.{_%_, _^_}
 use native.Mathlib.Nat.{mod-eq-of-lt}
 use Rattle.bits.proofs.Laws.{merged-wrap}
