@@ -4,11 +4,10 @@ use mathlib.Core.Path.{_≡_, ap, _∙_}
 use Prim.Native.Nat.{ℕ, _^_, _<_}
 use Rattle.bits.specs.Bits.{selected, merged}
 use Rattle.bits.proofs.Laws.{merged-whole}
-use Rattle.machine.specs.declared.Status.{Status}
 use Rattle.machine.specs.declared.Inputs.{Inputs}
 use Rattle.machine.specs.Status.{Good, asRead, loaded}
 use Rattle.machine.specs.Inputs.{Sound, Kept, bitsOf, leaving}
-use Rattle.machine.proofs.Round.{loaded-read, read-lt}
+use Rattle.machine.proofs.Round.{read-lt}
 use Rattle.movement.specs.DataMovement.{PASS-STAT, PASS-Q, loadQ, loadStatus}
 use Rattle.chip.specs.Glossary.{performOf}
 use Rattle.chip.proofs.Kept.{perform-kept}
@@ -37,10 +36,6 @@ load-q x e ha hq = whole x (x .a) (x .q) e ha hq
 pub load-stat : (x : Inputs) → x .code ≡ 0 → x .a < 2 ^ 32 → Good (x .status) → performOf 0x1c x ≡ leaving x (x .a) (loaded (x .a))
 unfolding performOf loadStatus
 load-stat x e ha g = ap (λ (y : ℕ). leaving x y (loaded y)) (whole x (x .a) (asRead (x .status)) e ha (read-lt (x .status) g))
-
--- a status saved and loaded again
-pub saved-loaded : (s : Status) → Good s → loaded (asRead s) ≡ s
-saved-loaded = loaded-read
 
 -- every word leaves all in range
 pub in-range : (n : ℕ) (x : Inputs) → Sound x → x .a < 2 ^ 32 → x .b < 2 ^ 32 → x .q < 2 ^ 32 → Kept (performOf n x)

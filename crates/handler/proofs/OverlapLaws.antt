@@ -1,13 +1,13 @@
 -- The registers that words of a sheet name, one more word at a time; and the two sheets' sets meet exactly where some row of the table
 -- holds. Assumes nothing.
-use mathlib.Core.Path.{_≡_, refl, sym, ap, ap₂, _∙_}
-use mathlib.Core.List.{List, [], _∷_}
-use mathlib.Core.Bool.{Bool, true, false, not, _&&_, _||_, or-false}
+use mathlib.Core.Path.{_≡_, refl, sym, ap, _∙_}
+use mathlib.Core.List.{List, []}
+use mathlib.Core.Bool.{Bool, true, false, not, _&&_, _||_}
 use Prim.Native.Nat.{ℕ, zero, suc, _+_, _-_, _^_, _≤_, _<_}
 use native.Mathlib.Omega.{arith}
 use lib.Bits.{bitOr, or-lt, or-zero-r, and-zero-l}
 use lib.Dec.{lit<}
-use Rattle.reasons.specs.Reasons.{firstOf, noneHold, rowsBy}
+use Rattle.reasons.specs.Reasons.{noneHold, rowsBy}
 use Rattle.reasons.specs.declared.Check.the-variants.{Good}
 use Rattle.reasons.proofs.Rows.{hold-good, good-hold}
 use Rattle.packing.specs.Packing.{differ}

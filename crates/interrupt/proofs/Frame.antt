@@ -5,7 +5,6 @@ use mathlib.Core.List.{List, [], _∷_}
 use Prim.Native.Nat.{ℕ, zero, suc, _<_}
 use lib.ListN.{length}
 use Rattle.bits.specs.Bits.{choose}
-use Rattle.machine.specs.declared.Core.{Core}
 use Rattle.machine.specs.declared.Shown.{Shown}
 use Rattle.chip.specs.declared.Word.{Word}
 use Rattle.chip.specs.Lists.{State, readAt, storeAt, written, shownOf, stepOf, execs}

@@ -1,10 +1,10 @@
 -- The line-up of a main list and a handler at the boundaries of a schedule is a line of executions, and how long it is. Assumes nothing.
 use mathlib.Core.Path.{_≡_, sym, ap, _∙_, subst}
 use mathlib.Core.List.{List, [], _∷_, _++_}
-use Prim.Native.Nat.{ℕ, zero, suc, _+_, _*_, _-_, _^_, _≤_, _<_}
+use Prim.Native.Nat.{ℕ, suc, _+_, _*_, _-_, _^_, _≤_, _<_}
 use native.Mathlib.Nat.{suc-mul, mul-le-mul}
 use native.Mathlib.Omega.{arith}
-use lib.ListN.{length, take, drop, length-append, length-drop, take-append-drop}
+use lib.ListN.{length, drop, length-append, length-drop, take-append-drop}
 use lib.Seq.{drop-drop}
 use Rattle.chip.specs.declared.Word.{Word}
 use Rattle.sheet.specs.Sheet.{wordsOf, executionsOf, between}

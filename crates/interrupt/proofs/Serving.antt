@@ -10,7 +10,7 @@ use Rattle.machine.specs.Status.{Good}
 use Rattle.chip.specs.declared.Word.{Word}
 use Rattle.chip.specs.Lists.{execs}
 use Rattle.chip.proofs.Words.{execs-append}
-use Rattle.sheet.specs.Sheet.{executionsOf, between, Ready}
+use Rattle.sheet.specs.Sheet.{between, Ready}
 use Rattle.sheet.proofs.Positions.{between-whole}
 use Rattle.run.specs.declared.Going.{Going}
 use Rattle.run.specs.Run.{stateOf, Went}

@@ -1,5 +1,5 @@
 -- What a verdict says of the two sheets and the schedule, and the two ways in which an interrupted run ends. Assumes nothing.
-use mathlib.Core.Path.{_≡_, refl, sym, ap, ap₂, _∙_, subst}
+use mathlib.Core.Path.{_≡_, refl, sym, ap, _∙_, subst}
 use mathlib.Core.List.{List, [], _∷_}
 use Prim.Native.Nat.{ℕ, suc, _+_, _^_, _≤_, _<_}
 use native.Mathlib.Omega.{arith}
@@ -22,7 +22,7 @@ use Rattle.sheet.specs.Sheet.{executionsOf, checkOf, Ready}
 use Rattle.sheet.specs.declared.Given.the-variants.{Absent, Number}
 use Rattle.sheet.proofs.Table.{ready}
 use Rattle.run.specs.declared.Going.{Going}
-use Rattle.run.specs.Run.{Ended, entering, ran, Went}
+use Rattle.run.specs.Run.{Ended, entering, Went}
 use Rattle.run.proofs.Parts.{went-ran}
 use Rattle.handler.specs.Form.{formOf}
 use Rattle.handler.specs.Overlap.{overlapOf}
@@ -31,7 +31,7 @@ use Rattle.interrupt.specs.declared.Verdict.{Verdict}
 use Rattle.interrupt.specs.declared.Verdict.the-variants.{Fine, Refused}
 use Rattle.interrupt.specs.Serve.{Rising}
 use Rattle.interrupt.proofs.Lines.{line-short}
-use Rattle.interrupt.specs.Interrupt.{inNeither, inMain, inHandler, marking, pairOf, verdictOf, Left, left, servedBy, unlessRefused, lineOf, interruptedOf}
+use Rattle.interrupt.specs.Interrupt.{inNeither, inMain, inHandler, marking, pairOf, verdictOf, left, servedBy, unlessRefused, lineOf, interruptedOf}
 
 -- ---- through the order of the reasons
 marking-good : (k : ℕ) (c : Check) (v : Verdict) → marking k c v ≡ Fine → c ≡ Good

@@ -7,8 +7,7 @@ use Rattle.bits.proofs.Bounds.{selected-bounds, zero-flag, sign-flag, merged-lt
 use Rattle.machine.specs.declared.Status.{Status}
 use Rattle.machine.specs.declared.Inputs.{Inputs}
 use Rattle.machine.specs.declared.Outputs.{Outputs}
-use Rattle.machine.specs.Status.{Good, withPosition, withC, withN, withV, withZ, withL, withM, withS, withNibbles}
-use Rattle.machine.proofs.Nibbles.{Apart}
+use Rattle.machine.specs.Status.{Good, withPosition, withC, withN, withV, withZ, withL, withM, withS}
 use Rattle.machine.specs.Inputs.{bitsOf, zeroSign, result, Sound, Kept}
 
 pub bits-le : (x : Inputs) → Sound x → bitsOf x ≤ 32
@@ -38,9 +37,6 @@ good-m f s h g = record { position = g .position; width = g .width; c = g .c; n 
 
 pub good-s : (f : ℕ) (s : Status) → f < 2 → Good s → Good (withS f s)
 good-s f s h g = record { position = g .position; width = g .width; c = g .c; n = g .n; v = g .v; z = g .z; l = g .l; m = g .m; s = h; nibbles = g .nibbles }
-
-pub good-nibbles : (f : ℕ) (s : Status) → Apart 8 f → Good s → Good (withNibbles f s)
-good-nibbles f s h g = record { position = g .position; width = g .width; c = g .c; n = g .n; v = g .v; z = g .z; l = g .l; m = g .m; s = g .s; nibbles = h }
 
 pub good-zero-sign : (n r : ℕ) (s : Status) → Good s → Good (zeroSign n r s)
 good-zero-sign n r s g = good-z (zeroOf n r) _ (zero-flag n r) (good-n (signOf n r) s (sign-flag n r) g)

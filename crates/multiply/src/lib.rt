@@ -3,7 +3,7 @@
 use machine::Inputs;
 use machine::Outputs;
 ghost use mathlib.Core.Path.{_≡_};
-ghost use Prim.Native.Nat.{ℕ, _+_, _-_, _*_, _/_, _%_, _^_, _<_, _≤_};
+ghost use Prim.Native.Nat.{_+_, _-_, _*_, _/_, _%_, _^_, _<_, _≤_};
 ghost use lib.ListN.{getD};
 ghost use Rattle.machine.specs.Inputs.{bitsOf, Sound};
 ghost use Rattle.multiply.specs.Multiply.{zeroExtended, signExtended, partial, shiftedBy2, firstStep, step, SMULFIRST, UMULLAST, multiplies};

@@ -1,21 +1,18 @@
 -- Laws of sets of registers, and of the registers that words name. Assumes nothing.
-use mathlib.Core.Path.{_≡_, refl, sym, ap, ap₂, _∙_, subst}
-use mathlib.Core.List.{List, [], _∷_, _++_}
-use mathlib.Core.Bool.{Bool, true, false, not, _&&_, _||_, or-true}
-use Prim.Native.Nat.{ℕ, zero, suc, _+_, _-_, _*_, _/_, _%_, _^_, _≤_, _<_, min, max}
-use native.Mathlib.Nat.{pow-suc, div-eq-of-lt, mul-comm, zero-mul, one-mul}
-use native.Mathlib.Decide.{ℕ-discrete, decLt}
+use mathlib.Core.Path.{_≡_, refl, sym, ap, ap₂, _∙_}
+use mathlib.Core.Bool.{Bool, true, false, not, _||_, or-true}
+use Prim.Native.Nat.{ℕ, zero, suc, _-_, _/_, _%_, _^_, _<_, min, max}
+use native.Mathlib.Nat.{div-eq-of-lt, one-mul}
 use native.Mathlib.Omega.{arith}
-use borrow.Author.Tests.{eq-eqb, ne-eqb, eqb-true, eqb-false, not-false}
+use borrow.Author.Tests.{ne-eqb, eqb-true, not-false}
 use lib.Dec.{eqb}
-use lib.Pow.{pow-pos, pow-lt, pow-add, shl-shr}
-use lib.Bits.{bitAnd, bitOr, and-comm, and-lt, or-lt, and-le-l, and-le-r, or-add-and, and-high}
+use lib.Pow.{pow-pos, pow-lt, shl-shr}
+use lib.Bits.{bitAnd, bitOr, and-lt, or-lt, and-le-l, and-le-r, or-add-and}
 use Rattle.bits.specs.Bits.{bitOf}
 use Rattle.bits.proofs.BitByBit.{bit-lt, bit-and, bit-or, bit-ext, by-flag}
 use Rattle.chip.specs.declared.Word.{Word}
 use Rattle.packing.specs.Packing.{differ, fieldsOf}
-use Rattle.packing.specs.Registers.{only, isIn, common, sourcesOf, targetOf, namesOf, namesAll, Narrow}
-use Rattle.packing.proofs.Numbers.{or-left, or-right}
+use Rattle.packing.specs.Registers.{only, isIn, common, sourcesOf, targetOf, namesOf, Narrow}
 
 -- ---- sets
 -- a number that is not zero
@@ -31,37 +28,11 @@ in-or s t r = ap (λ (x : ℕ). eqb x 1) (bit-or r s t) ∙ flags (bitOf r s) (b
         by-flag (λ (x : ℕ). eqb (max x y) 1 ≡ (eqb x 1 || eqb y 1)) (by-flag (λ (y : ℕ). eqb (max 0 y) 1 ≡ eqb y 1) refl refl y k)
         (by-flag (λ (y : ℕ). eqb (max 1 y) 1 ≡ true) refl refl y k) x h
 
--- a bit of a power of two
-bit-only : (r k : ℕ) → r ≤ k → 2 ^ k / 2 ^ r ≡ 2 ^ (k - r)
-bit-only r k h =
-    let e : (k - r) + r ≡ k = omega arith in
-    subst (λ (j : ℕ). 2 ^ j / 2 ^ r ≡ 2 ^ (k - r)) e (ap (λ (x : ℕ). x / 2 ^ r) (pow-add 2 (k - r) r) ∙ shl-shr (2 ^ (k - r)) r)
-
 pub in-only : (k : ℕ) → isIn (only k) k ≡ true
 unfolding isIn
 in-only k =
-    let e : k - k ≡ 0 = omega arith in
-    ap (λ (x : ℕ). eqb (x % 2) 1) (bit-only k k (omega arith) ∙ ap (λ (j : ℕ). 2 ^ j) e)
-
-not-only : (k r : ℕ) → (r ≡ k → ⊥) → isIn (only k) r ≡ false
-unfolding isIn
-not-only k r h = go (decLt k r)
-  where
-    even : (j : ℕ) → 0 < j → 2 ^ j % 2 ≡ 0
-    even zero i = absurd (omega arith)
-    even (suc j) i = let p : 2 ^ suc j ≡ 2 ^ j * 2 = pow-suc 2 j in omega arith
-
-    go : Dec (k < r) → eqb (bitOf r (2 ^ k)) 1 ≡ false
-    go (yes i) = ap (λ (x : ℕ). eqb (x % 2) 1) (div-eq-of-lt (pow-lt i))
-    go (no i) = ap (λ (x : ℕ). eqb (x % 2) 1) (bit-only r k (omega arith)) ∙ ap (λ (x : ℕ). eqb x 1) (even (k - r) (omega arith))
-
--- a register in a set of one is that one
-pub in-only-same : (k r : ℕ) → isIn (only k) r ≡ true → r ≡ k
-in-only-same k r e = go (ℕ-discrete r k)
-  where
-    go : Dec (r ≡ k) → r ≡ k
-    go (yes h) = h
-    go (no h) = absurd (let f : isIn (only k) r ≡ false = not-only k r h in let z : _≡_ {A = ℕ} 0 1 = cc in omega arith)
+    let e : 2 ^ k / 2 ^ k ≡ 1 = ap (λ (x : ℕ). x / 2 ^ k) (sym (one-mul (2 ^ k))) ∙ shl-shr 1 k in
+    ap (λ (x : ℕ). eqb (x % 2) 1) e
 
 -- no register is in both of two sets that have none in common
 pub common-none : (s t r : ℕ) → common s t ≡ false → isIn s r ≡ true → isIn t r ≡ true → ⊥
@@ -71,19 +42,6 @@ common-none s t r e f g =
     let d : 0 / 2 ^ r ≡ 0 = div-eq-of-lt (pow-pos r) in
     let o : bitOf r (bitAnd s t) ≡ 0 = ap (bitOf r) z ∙ ap (λ (x : ℕ). x % 2) d in
     omega (arith, o, bit-and r s t, eqb-true (bitOf r s) 1 f, eqb-true (bitOf r t) 1 g)
-
--- a set of one has its register in common, or none
-pub common-only : (s k : ℕ) → common (only k) s ≡ isIn s k
-unfolding common isIn
-common-only s k =
-    let p : 2 ^ (1 + k) - 2 ^ k ≡ 2 ^ k = let q : 2 ^ (1 + k) ≡ 2 ^ 1 * 2 ^ k = pow-add 2 1 k in omega arith in
-    let e : bitAnd (2 ^ k) s ≡ bitOf k s * 2 ^ k = and-comm (2 ^ k) s ∙ ap (bitAnd s) (sym p) ∙ and-high s 1 k in
-    ap (λ (x : ℕ). differ x 0) e ∙ flags (bitOf k s) (2 ^ k) (bit-lt k s) (pow-pos k)
-  where
-    flags : (f n : ℕ) → f < 2 → 0 < n → differ (f * n) 0 ≡ eqb f 1
-    flags f n h i =
-        by-flag (λ (f : ℕ). differ (f * n) 0 ≡ eqb f 1) (ap (λ (x : ℕ). differ x 0) (zero-mul n))
-        (ap (λ (x : ℕ). differ x 0) (one-mul n) ∙ some n i) f h
 
 -- what a union has in common, of sets of 64 registers
 pub common-or : (s t u : ℕ) → s < 2 ^ 64 → t < 2 ^ 64 → u < 2 ^ 64 → common (bitOr s t) u ≡ (common s u || common t u)

@@ -1,6 +1,6 @@
 -- The two ways in which a run ends; running in parts equals running at once; and a run has one outcome. Assumes nothing.
 use mathlib.Core.Path.{_≡_, ap, ap₂, sym, subst, _∙_}
-use mathlib.Core.List.{List, [], _∷_, _++_}
+use mathlib.Core.List.{List, [], _++_}
 use Prim.Native.Nat.{ℕ, _+_, _-_, _^_, _≤_, _<_, min}
 use native.Mathlib.Omega.{arith}
 use lib.ListN.{length, take, drop, length-append, length-take, length-drop}
@@ -22,7 +22,7 @@ use Rattle.sheet.specs.declared.Given.the-variants.{Number}
 use Rattle.sheet.proofs.Positions.{all-take, all-drop, take-left, drop-left}
 use Rattle.sheet.proofs.Table.{ready, start-within, start-later}
 use Rattle.run.specs.declared.Going.{Going}
-use Rattle.run.specs.Run.{stateOf, entering, goingFrom, Sane, executed, Ended, ended, ran, unless, runOf, Stepped, Went}
+use Rattle.run.specs.Run.{stateOf, entering, Sane, executed, Ended, ended, ran, unless, runOf, Stepped, Went}
 use Rattle.run.proofs.Laws.{each-ready, execs-sane}
 
 -- ---- the two ways in which a run ends

@@ -1,7 +1,7 @@
 -- A run of a sheet on a lent file of registers (document 01, 'Sheets and words' and 'Reasons given'): refused with all as it was, or its
 -- executions one after another from a start on. Assumes nothing.
 use mathlib.Core.Path.{_≡_}
-use mathlib.Core.List.{List, [], _∷_}
+use mathlib.Core.List.{List, []}
 use Prim.Native.Nat.{ℕ, _+_, _^_, _<_}
 use lib.ListN.{length, take, drop}
 use Rattle.machine.specs.declared.Machine.{Machine}
@@ -60,10 +60,6 @@ pub record Stepped (w : Word) (t : State) (file : List ℕ) (x : Shown) : Type 0
   pub shown : x ≡ shownOf w t
   pub state : state file (x .core) ≡ stepOf w t
   pub status : Good (x .core .status)
-
--- Q and the status register taken in, and no word counted
-abbrev pub goingFrom : Machine → Going
-goingFrom m = record { core = taken m; count = 0 }
 
 -- the state while words run and are counted
 abbrev pub stateOf : List ℕ → Going → State

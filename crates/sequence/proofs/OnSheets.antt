@@ -14,7 +14,7 @@ use Rattle.sheet.specs.declared.Given.the-variants.{Number}
 use Rattle.sheet.proofs.Positions.{All, all-take, all-drop}
 use Rattle.sheet.proofs.Positions.All.{more}
 use Rattle.sheet.proofs.Table.{ready}
-use Rattle.run.specs.Run.{Sane, Ended, entering, ran}
+use Rattle.run.specs.Run.{Ended, entering, ran}
 use Rattle.run.proofs.Laws.{each-ready, execs-sane}
 use Rattle.run.proofs.Parts.{run-is, entering-sane, back}
 use Rattle.sequence.specs.Sequences.{Idle, bitsIn, wordsOf as listed, multiplyWords, divideWords}

@@ -8,7 +8,7 @@ use native.Mathlib.Decide.{decLt}
 use lib.ListN.{length, take, drop, length-take, length-drop, drop-of-length-le}
 use lib.Seq.{take-all}
 use Rattle.chip.specs.declared.Word.{Word}
-use Rattle.sheet.specs.Sheet.{wordsOf, wordAt, wordsFrom, allWords, executionsOf, between}
+use Rattle.sheet.specs.Sheet.{wordsOf, wordAt, wordsFrom, executionsOf, between}
 
 -- ---- words of a sheet
 pub words-length : (s : List ℕ) (k n : ℕ) → length (wordsFrom s k n) ≡ n

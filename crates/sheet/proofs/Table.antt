@@ -1,14 +1,14 @@
 -- The table of a sheet: how a check goes through it, that each reason is given exactly when its condition holds and no earlier one does, and
 -- what a sheet that passed has. Assumes nothing.
 use mathlib.Core.Path.{_≡_, refl, ap, _∙_, sym}
-use mathlib.Core.List.{List, [], _∷_, _++_}
+use mathlib.Core.List.{List, [], _++_}
 use mathlib.Core.Bool.{Bool, false, _||_}
 use Prim.Native.Nat.{ℕ, _+_, _*_, _≤_, _<_}
 use native.Mathlib.Omega.{arith}
 use borrow.Author.Tests.{lt-ltb, le-ltb, eqb-true, eqb-false, ltb-false, leb-false, not-false}
 use lib.ListN.{length, length-take, length-drop}
 use lib.Dec.{eqb, ltb, leb}
-use Rattle.reasons.specs.Reasons.{Row, _gives_at_, firstOf, noneHold, rowsBy}
+use Rattle.reasons.specs.Reasons.{Row, firstOf, noneHold, rowsBy}
 use Rattle.reasons.specs.declared.Reason.{Reason}
 use Rattle.reasons.specs.declared.Reason.the-variants.{Short}
 use Rattle.reasons.specs.declared.Check.{Check}
@@ -151,10 +151,6 @@ input-length x e = go (good-none (rowsBeside 4 x Absent Absent) e)
   where
     go : None (rowsBeside 4 x Absent Absent) → length x ≡ 4 + 6 * wordsOf x + 4 * declaredOf x
     go (more h₁ (more h₂ (more h₃ (more h₄ t)))) = eqb-true (length x) (4 + 6 * wordsOf x + 4 * declaredOf x) (not-false _ h₄)
-
--- the six bytes of a word of it are there
-pub ready-room : (s : List ℕ) (n k : ℕ) → Ready s n → k < wordsOf s → 4 + 6 * k + 6 ≤ length s
-ready-room s n k r h = omega arith
 
 -- a start that was checked is at most the executions
 pub start-within : (s : List ℕ) (file : Given) (start : ℕ) → checkOf s file (Number start) ≡ Good → start ≤ length (executionsOf s)

@@ -203,3 +203,9 @@ text-done x file {place = place} e g k w h p f = written-as (lines ∙ sym (ap (
   where
     lines : linesOf 0 (executionsOf x) (entering file freshOf) ++ lastOf Done place ≡ textBy Passed x
     lines = rw (g, k) refl
+
+-- no second length and no second text
+pub one-text : {text before after other : List ℕ} {n m : ℕ} → Written text before n after → Written text before m other → (n ≡ m) × (after ≡ other)
+one-text {text} {before} w v =
+    let e = w .size ∙ sym (v .size) in
+    (e, w .bytes ∙ ap (λ (k : ℕ). text ++ drop k before) e ∙ sym (v .bytes))

@@ -7,15 +7,14 @@ use reasons::Check;
 use reasons::Reason;
 use sheet::Which;
 ghost use mathlib.Core.Path.{_≡_};
-ghost use mathlib.Core.List.{_++_};
 ghost use Prim.Native.Nat.{_+_, _*_, _≤_, _<_};
-ghost use lib.ListN.{length, drop};
+ghost use lib.ListN.{length};
 ghost use Rattle.machine.specs.Status.{Good};
 ghost use Rattle.chip.specs.Lists.{state};
 ghost use Rattle.text.specs.Text.{hexOf};
 ghost use Rattle.sheet.specs.Sheet.{wordsOf, declaredOf, wordAt, inputOf, Ready};
-ghost use Rattle.tracing.specs.Input.{sizeOf, registerAt, registersFrom, fileIn};
-ghost use Rattle.tracing.specs.Lines.{lineOf, decimalOf, lastOf, linesOf, textOf};
+ghost use Rattle.tracing.specs.Input.{sizeOf, registerAt, registersFrom};
+ghost use Rattle.tracing.specs.Lines.{lineOf, decimalOf, lastOf, textOf};
 ghost use Rattle.tracing.specs.Fill.{Put, Traced, Filled, Written};
 
 // The bytes of an execution's line, and of the last line.

@@ -1,13 +1,13 @@
 -- The loop looks for the first row that holds (`Scan`), and `last` is what stands before entry j. The measure is the entries left. Assumes nothing.
-use mathlib.Core.Path.{_≡_, refl, sym, ap, _∙_}
+use mathlib.Core.Path.{_≡_, refl, sym, _∙_}
 use mathlib.Core.List.{_∷_}
-use Prim.Native.Nat.{ℕ, _-_}
+use Prim.Native.Nat.{_-_}
 use lib.ListN.{length, getD}
 use native.Mathlib.Omega.{arith}
 use denote.Ref.{now}
-use Rattle.reasons.specs.Reasons.{firstOf, rowsBy}
+use Rattle.reasons.specs.Reasons.{rowsBy}
 use Rattle.reasons.proofs.Rows.{Scan, scan-start, scan-bad, scan-more, scan-done}
-use Rattle.handler.specs.Schedule.{scheduleRow, scheduleOf, entryRows}
+use Rattle.handler.specs.Schedule.{scheduleRow, scheduleOf}
 use Rattle.handler.proofs.ScheduleLaws.{last-next, entry-is}
 use borrow.Author.Needs.{needs}
 use Rattle.handler.proofs.check_schedule.Statement.{statement}

@@ -1,7 +1,5 @@
 -- Under six words, or six and more. Assumes nothing.
-use mathlib.Core.Path.{sym, ap, _∙_, subst}
-use Prim.Native.Nat.{ℕ, _<_}
-use native.Mathlib.Omega.{arith}
+use mathlib.Core.Path.{_∙_}
 use denote.Ref.{now}
 use Rattle.handler.proofs.FormLaws.{form-short, form-long}
 use borrow.Author.Needs.{needs}

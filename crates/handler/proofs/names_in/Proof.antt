@@ -5,7 +5,6 @@ use native.Mathlib.Omega.{arith}
 use denote.Ref.{now}
 use Rattle.packing.specs.Registers.{namesOf}
 use Rattle.handler.proofs.OverlapLaws.{Gathering, gathering-start, gathering-more, gathering-done}
-use borrow.Author.Needs.{needs}
 use Rattle.handler.proofs.names_in.Statement.{statement}
 use Rattle.handler.proofs.names_in.Tie as tie
 

@@ -1,16 +1,13 @@
 -- A refusal leaves all as it was; else the span goes over the executions of the run, which it counts. Assumes nothing.
-use mathlib.Core.Path.{sym, ap, subst, _∙_}
+use mathlib.Core.Path.{sym, subst, _∙_}
 use native.Mathlib.Omega.{arith}
 use denote.Ref.{now}
 use lib.ListN.{length}
 use Rattle.machine.specs.declared.Core.{Core}
 use Rattle.machine.specs.Status.{Good}
 use Rattle.machine.proofs.Handed.{taken-good}
-use Rattle.chip.specs.declared.Word.{Word}
-use mathlib.Core.List.{List}
 use Rattle.sheet.specs.declared.Given.the-variants.{Number}
 use Rattle.sheet.proofs.Table.{ready, start-within}
-use Rattle.run.specs.Run.{Went}
 use Rattle.run.proofs.Parts.{run-refused, run-is, went-ran, went-list, executed-is}
 use borrow.Author.Needs.{needs}
 use Rattle.run.proofs.run.Statement.{statement}

@@ -3,7 +3,6 @@ use mathlib.Core.Path.{sym, subst}
 use Prim.Native.Nat.{_-_}
 use native.Mathlib.Omega.{arith}
 use denote.Ref.{now}
-use lib.ListN.{length}
 use Rattle.sheet.specs.Sheet.{sheetOf, Ready}
 use Rattle.sheet.proofs.Positions.{executions-length}
 use Rattle.run.proofs.Laws.{Running, running-start, running-more, running-done}

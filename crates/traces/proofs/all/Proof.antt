@@ -1,7 +1,6 @@
 -- The bytes left fall: an input has at least the four of its length. Assumes nothing.
 use mathlib.Core.Path.{_≡_}
 use Prim.Native.Nat.{_-_, _≤_}
-use native.Mathlib.Omega.{arith}
 use lib.ListN.{length}
 use borrow.Author.Needs.{needs}
 use Rattle.traces.proofs.all.Statement.{statement}

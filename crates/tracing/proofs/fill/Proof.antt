@@ -1,12 +1,10 @@
 -- The lines so far stand at the start, and with those left they are all (`Filling`). The measure is the executions left. Assumes nothing.
-use mathlib.Core.Path.{_≡_, refl, sym, ap, subst, _∙_}
-use Prim.Native.Nat.{ℕ, _-_}
+use mathlib.Core.Path.{sym, subst}
+use Prim.Native.Nat.{_-_}
 use native.Mathlib.Omega.{arith}
-use lib.ListN.{length}
 use denote.Ref.{now}
-use Rattle.machine.specs.declared.Core.{Core}
 use Rattle.chip.specs.Lists.{state}
-use Rattle.sheet.specs.Sheet.{executionsOf, Ready}
+use Rattle.sheet.specs.Sheet.{Ready}
 use Rattle.sheet.proofs.Positions.{executions-length}
 use Rattle.tracing.proofs.Lines.{Filling, filling-start, filling-more, filling-done}
 use borrow.Author.Needs.{needs}

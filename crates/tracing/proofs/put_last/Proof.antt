@@ -1,9 +1,7 @@
 -- The last line has eight bytes. Assumes nothing.
-use mathlib.Core.Path.{_≡_, sym, ap, _∙_}
-use Prim.Native.Nat.{ℕ, _+_}
+use mathlib.Core.Path.{ap, _∙_}
 use native.Mathlib.Omega.{arith}
 use lib.ListN.{length}
-use denote.Ref.{now}
 use Rattle.tracing.proofs.Lines.{last-length, put-as}
 use borrow.Author.Needs.{needs}
 use Rattle.tracing.proofs.put_last.Statement.{statement}

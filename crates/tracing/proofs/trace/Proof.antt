@@ -1,8 +1,6 @@
 -- Refused, or run on as many of 64 registers as are declared. Assumes nothing.
-use mathlib.Core.Path.{_≡_, refl, sym, ap, _∙_}
-use Prim.Native.Nat.{ℕ, _+_, _≤_}
+use mathlib.Core.Path.{refl, sym, _∙_}
 use native.Mathlib.Omega.{arith}
-use lib.ListN.{length}
 use denote.Ref.{now}
 use Rattle.tracing.proofs.Input.{room, input-ready}
 use Rattle.tracing.proofs.Lines.{text-refused}

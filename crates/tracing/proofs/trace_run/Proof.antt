@@ -1,8 +1,6 @@
 -- The registers are those of the input, so the lines are those of its run (`text-done`). Assumes nothing.
-use mathlib.Core.Path.{_≡_, refl, sym, ap, _∙_}
-use Prim.Native.Nat.{ℕ, _+_}
+use mathlib.Core.Path.{_∙_}
 use native.Mathlib.Omega.{arith}
-use lib.ListN.{length}
 use denote.Ref.{now}
 use Rattle.tracing.proofs.Input.{words-few, input-ready, input-room, input-file}
 use Rattle.tracing.proofs.Lines.{filled-length, text-done}

@@ -1,7 +1,7 @@
 -- What is written is no longer than the text. Assumes nothing.
 use mathlib.Core.Path.{sym, _∙_}
 use native.Mathlib.Omega.{arith}
-use lib.ListN.{length, length-take}
+use lib.ListN.{length-take}
 use borrow.Author.Needs.{needs}
 use Rattle.tracing.proofs.write.Statement.{statement}
 use Rattle.tracing.proofs.write.Tie as tie
