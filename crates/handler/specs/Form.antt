@@ -10,7 +10,7 @@ use Rattle.reasons.specs.declared.Reason.the-variants.{Form}
 use Rattle.reasons.specs.declared.Check.{Check}
 use Rattle.chip.specs.declared.Word.{Word}
 use Rattle.packing.specs.Packing.{differ}
-use Rattle.packing.specs.Registers.{only, common, sourcesOf, targetOf, namesOf}
+use Rattle.packing.specs.Registers.{only, common, sourcesOf, destinationOf, namesOf}
 use Rattle.sheet.specs.Sheet.{wordAt, wordsOf, sheetRows}
 use Rattle.sheet.specs.declared.Given.the-variants.{Absent}
 
@@ -50,7 +50,7 @@ loadingFault opcode saved w = notFixed w opcode 0 || bodyFault saved w
 
 -- last but one: LOADQ-A, A is q, no write. Last: LDSTAT-A, A is s, no write
 unfoldable pub givingBackFault : ℕ → ℕ → ℕ → Word → Bool
-givingBackFault opcode back saved w = notFixed w opcode 0 || differ (w .a) back || common (bitOr (only (w .b)) (targetOf w)) saved
+givingBackFault opcode back saved w = notFixed w opcode 0 || differ (w .a) back || common (bitOr (only (w .b)) (destinationOf w)) saved
 
 -- word k of n
 unfoldable pub faultAt : ℕ → ℕ → ℕ → ℕ → Word → Bool

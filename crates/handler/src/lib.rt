@@ -96,7 +96,9 @@ fn giving_back_fault(opcode: u32, back: u32, saved: u64, w: Word) -> bool
     requires { ⌜ Narrow w ⌝ }
     ensures { λ r. ⌜ r ≡ givingBackFault opcode back saved w ⌝ }
 {
-    not_fixed(w, opcode, 0) | (w.a != back) | meet(packing::only(w.b) | packing::target(w), saved)
+    not_fixed(w, opcode, 0)
+        | (w.a != back)
+        | meet(packing::only(w.b) | packing::destination(w), saved)
 }
 
 // Whether word k of n is at fault.

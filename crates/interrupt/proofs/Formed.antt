@@ -14,7 +14,7 @@ use Rattle.reasons.proofs.Rows.{None, good-none, none-at}
 use Rattle.reasons.proofs.Rows.None.{none, more}
 use Rattle.chip.specs.declared.Word.{Word}
 use Rattle.packing.specs.Packing.{differ}
-use Rattle.packing.specs.Registers.{only, isIn, common, sourcesOf, targetOf, namesOf, namesAll}
+use Rattle.packing.specs.Registers.{only, isIn, common, sourcesOf, destinationOf, namesOf, namesAll}
 use Rattle.packing.proofs.Numbers.{or-left, or-right}
 use Rattle.packing.proofs.Registers.{in-or, in-only, common-none, names-a, names-y}
 use Rattle.sheet.specs.Sheet.{wordsOf, wordAt, wordsFrom, declaredOf, executionsOf, namesIn, WordReady, Ready}
@@ -180,8 +180,8 @@ module _ (h : List ℕ) (ready : (k : ℕ) → k < wordsOf h → WordReady 64 (w
         let v₁ : Word = wordAt h (n - 2) in
         let v₂ : Word = wordAt h (n - 1) in
         let e₁ = or-left (notFixed w₁ 0x05 1 || common (sourcesOf w₁) saved) (eqb s q) f₁ in
-        let d₁ = or-left (notFixed v₁ 0x06 0 || differ (v₁ .a) q) (common (bitOr (only (v₁ .b)) (targetOf v₁)) saved) g₁ in
-        let d₂ = or-left (notFixed v₂ 0x1c 0 || differ (v₂ .a) s) (common (bitOr (only (v₂ .b)) (targetOf v₂)) saved) g₂ in
+        let d₁ = or-left (notFixed v₁ 0x06 0 || differ (v₁ .a) q) (common (bitOr (only (v₁ .b)) (destinationOf v₁)) saved) g₁ in
+        let d₂ = or-left (notFixed v₂ 0x1c 0 || differ (v₂ .a) s) (common (bitOr (only (v₂ .b)) (destinationOf v₂)) saved) g₂ in
         record {
           w0 = wordAt h 0;
           w1 = w₁;

@@ -12,7 +12,7 @@ use Rattle.bits.specs.Bits.{bitOf}
 use Rattle.bits.proofs.BitByBit.{bit-lt, bit-and, bit-or, bit-ext, by-flag}
 use Rattle.chip.specs.declared.Word.{Word}
 use Rattle.packing.specs.Packing.{differ, fieldsOf}
-use Rattle.packing.specs.Registers.{only, isIn, common, sourcesOf, targetOf, namesOf, Narrow}
+use Rattle.packing.specs.Registers.{only, isIn, common, sourcesOf, destinationOf, namesOf, Narrow}
 
 -- ---- sets
 -- a number that is not zero
@@ -79,19 +79,19 @@ pub only-lt : (r : ℕ) → r < 64 → only r < 2 ^ 64
 only-lt r h = pow-lt h
 
 pub names-lt : (w : Word) → Narrow w → namesOf w < 2 ^ 64
-unfolding namesOf sourcesOf targetOf
+unfolding namesOf sourcesOf destinationOf
 names-lt w n = or-lt 64 _ _ (or-lt 64 _ _ (only-lt (w .a) (n .a)) (only-lt (w .b) (n .b))) (only-lt (w .y) (n .y))
 
 pub names-a : (w : Word) → isIn (namesOf w) (w .a) ≡ true
-unfolding namesOf sourcesOf targetOf
+unfolding namesOf sourcesOf destinationOf
 names-a w = simp (in-or, in-only)
 
 pub names-b : (w : Word) → isIn (namesOf w) (w .b) ≡ true
-unfolding namesOf sourcesOf targetOf
+unfolding namesOf sourcesOf destinationOf
 names-b w = simp (in-or, in-only, or-true)
 
 pub names-y : (w : Word) → isIn (namesOf w) (w .y) ≡ true
-unfolding namesOf sourcesOf targetOf
+unfolding namesOf sourcesOf destinationOf
 names-y w = simp (in-or, in-only, or-true)
 
 -- the register fields of any number have six bits

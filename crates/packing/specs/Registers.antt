@@ -26,12 +26,12 @@ common s t = differ (bitAnd s t) 0
 unfoldable pub sourcesOf : Word → ℕ
 sourcesOf w = bitOr (only (w .a)) (only (w .b))
 
--- as target: Y
-unfoldable pub targetOf : Word → ℕ
-targetOf w = only (w .y)
+-- as destination: Y
+unfoldable pub destinationOf : Word → ℕ
+destinationOf w = only (w .y)
 
 unfoldable pub namesOf : Word → ℕ
-namesOf w = bitOr (sourcesOf w) (targetOf w)
+namesOf w = bitOr (sourcesOf w) (destinationOf w)
 
 -- words one after another
 unfoldable pub namesAll : List Word → ℕ

@@ -8,7 +8,7 @@ ghost use Prim.Native.Nat.{_+_, _*_, _%_, _^_, _<_, _≤_};
 ghost use lib.ListN.{length, drop};
 ghost use lib.Dec.{leb};
 ghost use Rattle.packing.specs.Packing.{number6, fieldsOf, packedNumber, bytes6, some, registerFields, tooLarge, InRange, ended, packOf, unpackOf, unpackedBy, blank};
-ghost use Rattle.packing.specs.Registers.{only, sourcesOf, targetOf, namesOf, Narrow};
+ghost use Rattle.packing.specs.Registers.{only, sourcesOf, destinationOf, namesOf, Narrow};
 
 // What unpacking answers: the word where the check is good, else all fields 0.
 pub struct Unpacked {
@@ -141,10 +141,10 @@ pub fn sources(w: Word) -> u64
     only(w.a) | only(w.b)
 }
 
-// As target: Y, used or not.
-pub fn target(w: Word) -> u64
+// As destination: Y, used or not.
+pub fn destination(w: Word) -> u64
     requires { ⌜ Narrow w ⌝ }
-    ensures { λ s. ⌜ s ≡ targetOf w ⌝ }
+    ensures { λ s. ⌜ s ≡ destinationOf w ⌝ }
 {
     only(w.y)
 }
@@ -154,7 +154,7 @@ pub fn names(w: Word) -> u64
     requires { ⌜ Narrow w ⌝ }
     ensures { λ s. ⌜ s ≡ namesOf w ⌝ }
 {
-    sources(w) | target(w)
+    sources(w) | destination(w)
 }
 
 // ---- packing and unpacking

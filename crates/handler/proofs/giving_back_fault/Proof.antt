@@ -10,15 +10,15 @@ not-fixed-requires c κs = search needs
 only-requires : tie.Need-only-requires
 only-requires c κs = search needs
 
-target-requires : tie.Need-target-requires
-target-requires c κs = search needs
+destination-requires : tie.Need-destination-requires
+destination-requires c κs = search needs
 
 meet-requires : tie.Need-meet-requires
 meet-requires c κs = search needs
 
 returns : tie.Need-returns
 unfolding givingBackFault
-returns c = rw (c .meet .ensures, c .before .target .ensures, c .before .before .only .ensures, c .before .before .before .before .not-fixed .ensures)
+returns c = rw (c .meet .ensures, c .before .destination .ensures, c .before .before .only .ensures, c .before .before .before .before .not-fixed .ensures)
 
 pub giving-back-fault-spec : {M : Type 1} → statement M
 giving-back-fault-spec =
@@ -26,6 +26,6 @@ giving-back-fault-spec =
     (tie.spec
     not-fixed-requires
     only-requires
-    target-requires
+    destination-requires
     meet-requires
     returns)
