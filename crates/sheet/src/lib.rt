@@ -239,13 +239,14 @@ fn all_sound(s: &[u8], count: usize, n: u32) -> bool
     requires { ⌜ 4 + 6 * count ≤ length (now s) ⌝ }
     ensures { λ r. ⌜ r ≡ noneHold (rowsBy (wordRows (now (s .entry)) n) 0 count) ⌝ }
 {
-    let mut good = true;
     let mut next: usize = 0;
     while next < count {
-        good = good & sound(number_at(s, s, Which::Main, next), n);
+        if !sound(number_at(s, s, Which::Main, next), n) {
+            return false;
+        }
         next += 1;
     }
-    good
+    true
 }
 
 // The words in order: the first fault of the first word that has one, which is looked for only where there is one.

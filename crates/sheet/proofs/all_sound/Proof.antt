@@ -1,10 +1,11 @@
--- The loop's invariant: no row of any word holds exactly where all is good so far and no row of the words left, from the next on, holds. The
--- measure is the words left. Assumes nothing.
+-- The loop's invariant: no row of any word holds exactly where no row of the words left, from the next on, holds. The measure is the words left.
+-- Assumes nothing.
 use mathlib.Core.Path.{_≡_, refl, sym, _∙_}
-use mathlib.Core.Bool.{_&&_, and-true}
+use mathlib.Core.Bool.{true}
 use Prim.Native.Nat.{_-_, _≤_}
 use native.Mathlib.Omega.{arith}
 use denote.Ref.{now}
+use borrow.Author.Tests.{not-true, not-false}
 use Rattle.reasons.specs.Reasons.{noneHold, rowsBy}
 use Rattle.reasons.proofs.Rows.{rows-hold}
 use Rattle.sheet.specs.Sheet.{wordRows}
@@ -14,11 +15,10 @@ use Rattle.sheet.proofs.all_sound.Statement.{statement}
 use Rattle.sheet.proofs.all_sound.Tie as tie
 
 abbrev Inv-loop : tie.InvT-loop
-Inv-loop s count n good₀ next₀ good next =
-    (next ≤ count) × (noneHold (rowsBy (wordRows s n) 0 count) ≡ (good && noneHold (rowsBy (wordRows s n) next (count - next))))
+Inv-loop s count n next₀ next = (next ≤ count) × (noneHold (rowsBy (wordRows s n) 0 count) ≡ noneHold (rowsBy (wordRows s n) next (count - next)))
 
 abbrev μ-loop : tie.MeasureT-loop
-μ-loop s count n good₀ next₀ good next = count - next
+μ-loop s count n next₀ next = count - next
 
 loop-holds : tie.Need-loop-holds Inv-loop μ-loop
 loop-holds c =
@@ -26,34 +26,32 @@ loop-holds c =
     let e : a .count - 0 ≡ a .count = omega arith in
     (omega arith, rw e refl)
 
-number-at-requires : tie.Need-number-at-requires Inv-loop μ-loop
-number-at-requires c κs = omega arith
-
-sound-requires : tie.Need-sound-requires Inv-loop μ-loop
-sound-requires c κs = search needs
-
-add-next : tie.Need-add-next Inv-loop μ-loop
-add-next c = omega arith
-
-loop-less : tie.Need-loop-less Inv-loop μ-loop
-loop-less c = omega arith
+returns : tie.Need-returns Inv-loop μ-loop
+returns c =
+    let a = c .before .before .before .before .before .before .args in
+    let l = c .before .before .before .before .loop in
+    sym (l .inv .1
+    ∙ rows-hold (wordRows (now (a .s)) (a .n)) true (c .before .sound .result) (l .next) (a .count) (omega arith)
+    (seen-word (now (a .s)) (a .n) (l .next) _ _ (c .before .before .number-at .ensures) (c .before .sound .ensures))
+    ∙ rw (not-true (c .before .sound .result) (c .if1 .taken)) refl)
 
 loop-again : tie.Need-loop-again Inv-loop μ-loop
 loop-again c =
-    let a = c .before .before .before .before .before .args in
-    let l = c .before .before .before .loop in (
+    let a = c .before .before .before .before .before .before .args in
+    let l = c .before .before .before .before .loop in (
       omega arith,
       l .inv .1
-          ∙ rows-hold (wordRows (now (a .s)) (a .n)) (l .good) _ (l .next) (a .count) (omega arith)
-          (seen-word (now (a .s)) (a .n) (l .next) _ _ (c .before .number-at .ensures) (c .sound .ensures)),
+          ∙ rows-hold (wordRows (now (a .s)) (a .n)) true (c .before .sound .result) (l .next) (a .count) (omega arith)
+          (seen-word (now (a .s)) (a .n) (l .next) _ _ (c .before .before .number-at .ensures) (c .before .sound .ensures))
+          ∙ rw (not-false (c .before .sound .result) (c .if1 .left)) refl,
     )
 
-returns : tie.Need-returns Inv-loop μ-loop
-returns c =
+returns-2 : tie.Need-returns-2 Inv-loop μ-loop
+returns-2 c =
     let a = c .before .before .before .args in
     let l = c .before .loop in
     let e : a .count - l .next ≡ 0 = omega arith in
-    sym (l .inv .1 ∙ rw e (and-true (l .good)))
+    sym (l .inv .1 ∙ rw e refl)
 
 pub all-sound-spec : {M : Type 1} → statement M
 all-sound-spec =
@@ -62,9 +60,10 @@ all-sound-spec =
     Inv-loop
     μ-loop
     loop-holds
-    number-at-requires
-    sound-requires
-    add-next
-    loop-less
+    (λ c κs. omega arith)
+    (search needs)
+    returns
+    (λ c. omega arith)
+    (λ c. omega arith)
     loop-again
-    returns)
+    returns-2)
