@@ -39,10 +39,10 @@ abbrev pub listOf : ℕ → ℕ → List ℕ → ℕ → List ℕ
 listOf digits limit list zero = []
 listOf digits limit list (suc k) = listOf digits limit list k ++ (numberAt list (digits * k) digits % limit ∷ [])
 
--- the list's numbers, as many as fit, are the first r of what was read into
-abbrev pub Taken : ℕ → ℕ → List ℕ → ℕ → List ℕ → Type 0
-Taken digits limit list r to =
-    Counts r to × (r ≡ min (filledOf list / digits) (length to)) × (take r to ≡ listOf digits limit list r)
+-- the list's numbers, as many as fit, are the first r of what was read into; the others are as they were
+abbrev pub Taken : ℕ → ℕ → List ℕ → List ℕ → ℕ → List ℕ → Type 0
+Taken digits limit list before r to =
+    Counts r to × (r ≡ min (filledOf list / digits) (length to)) × (take r to ≡ listOf digits limit list r) × (drop r to ≡ drop r before)
 
 -- the tally after a case that was right, or missed
 abbrev pub countedOf : Tally → Bool → Tally

@@ -70,7 +70,7 @@ fn least(a: usize, b: usize) -> usize
 
 // A list's numbers of two digits into `to`, as far as there is room; how many there were.
 pub fn bytes(list: &[u8], to: &mut [u8]) -> usize
-    ensures { λ r. ⌜ Taken 2 256 (now (list .entry)) r (now (to .exit)) ⌝ }
+    ensures { λ r. ⌜ Taken 2 256 (now (list .entry)) (now (to .entry)) r (now (to .exit)) ⌝ }
 {
     let n = least(filled(list) / 2, to.len());
     let mut k: usize = 0;
@@ -83,7 +83,7 @@ pub fn bytes(list: &[u8], to: &mut [u8]) -> usize
 
 // Of four digits.
 pub fn halves(list: &[u8], to: &mut [u16]) -> usize
-    ensures { λ r. ⌜ Taken 4 65536 (now (list .entry)) r (now (to .exit)) ⌝ }
+    ensures { λ r. ⌜ Taken 4 65536 (now (list .entry)) (now (to .entry)) r (now (to .exit)) ⌝ }
 {
     let n = least(filled(list) / 4, to.len());
     let mut k: usize = 0;
@@ -96,7 +96,7 @@ pub fn halves(list: &[u8], to: &mut [u16]) -> usize
 
 // Of eight digits.
 pub fn words(list: &[u8], to: &mut [u32]) -> usize
-    ensures { λ r. ⌜ Taken 8 4294967296 (now (list .entry)) r (now (to .exit)) ⌝ }
+    ensures { λ r. ⌜ Taken 8 4294967296 (now (list .entry)) (now (to .entry)) r (now (to .exit)) ⌝ }
 {
     let n = least(filled(list) / 8, to.len());
     let mut k: usize = 0;
