@@ -13,14 +13,12 @@ FAMILIES = [("shifts", "shift"), ("arithmetic", "decimal"), ("multiply", "multip
 
 FAMILY = """\
 -- Each arm's call gives the entry of `{table}` at its number, and the default's the last entry. Written by tools/dispatch_proofs.py.
--- Assumes nothing.
 use mathlib.Core.Path.{{refl}}
 use Rattle.bits.proofs.Rest.{{last-entry}}
 {uses}"""
 
 OPERATE = """\
 -- Each arm's call gives the page of its number, and no number below 128 is left to the default. Written by tools/dispatch_proofs.py.
--- Assumes nothing.
 use Rattle.chip.proofs.Pages.{at, past-all}
 """
 

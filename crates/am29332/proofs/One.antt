@@ -1,5 +1,4 @@
 -- No second result meets a promise of this crate: each is one equation with a definition, over the answer and what was lent together.
--- Assumes nothing.
 use mathlib.Core.Path.{_≡_, sym, ap, _∙_}
 use mathlib.Core.List.{List}
 use Prim.Native.Nat.{ℕ}

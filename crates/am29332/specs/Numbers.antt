@@ -1,4 +1,4 @@
--- What the C interface answers, in numbers: document 01's number of each reason and its place, and what else an answer holds. Assumes nothing.
+-- What the C interface answers, in numbers: document 01's number of each reason and its place, and what else an answer holds.
 use mathlib.Core.List.{List}
 use Prim.Native.Nat.{ℕ}
 use Rattle.reasons.specs.Reasons.{numberOf}

@@ -1,4 +1,4 @@
--- The nibble bits are at their places. Assumes nothing.
+-- The nibble bits are at their places.
 use Prim.Native.Nat.{ℕ, zero, suc, _+_, _/_, _%_}
 use lib.Dec.{ltb}
 use Rattle.bits.specs.Bits.{flag}

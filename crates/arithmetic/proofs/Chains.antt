@@ -1,5 +1,5 @@
 -- The nibble bits of a sum and of a difference, read off the binary sum: where it differs from its operands at bits 4, 8, .., a carry came out of
--- the nibble below. Assumes nothing.
+-- the nibble below.
 use mathlib.Core.Path.{_≡_, refl, sym, ap, ap₂, _∙_}
 use mathlib.Core.Bool.{Bool, true, false}
 use Prim.Native.Nat.{ℕ, zero, suc, _+_, _-_, _*_, _/_, _%_, _^_, _≤_, _<_, min, max}

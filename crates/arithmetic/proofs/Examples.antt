@@ -1,4 +1,4 @@
--- Worked examples of appendix A, and sums at the edge of three bytes, computed from the definitions: one set, one claim. Assumes nothing.
+-- Worked examples of appendix A, and sums at the edge of three bytes, computed from the definitions: one set, one claim.
 use mathlib.Core.Path.{_≡_, refl}
 use mathlib.Core.List.{List, [], _∷_}
 use Prim.Native.Nat.{ℕ}

@@ -1,4 +1,4 @@
--- Every arithmetic instruction leaves words and a status register in range. Assumes nothing.
+-- Every arithmetic instruction leaves words and a status register in range.
 use Prim.Native.Nat.{ℕ, _+_, _-_, _^_, _<_}
 use native.Mathlib.Omega.{arith}
 use lib.ListN.{getD}

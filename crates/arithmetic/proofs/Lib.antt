@@ -1,3 +1,4 @@
+-- These proofs assume nothing.
 pub mod Chains
 pub mod Bounds
 pub mod Wrapped

@@ -1,4 +1,4 @@
--- A result may be wrapped at 32 bits before it is cut to the selected bytes: Y, Z and N are the same. Assumes nothing.
+-- A result may be wrapped at 32 bits before it is cut to the selected bytes: Y, Z and N are the same.
 use mathlib.Core.Path.{_≡_}
 use Prim.Native.Nat.{ℕ, _-_, _%_, _^_}
 use native.Mathlib.Omega.{arith}

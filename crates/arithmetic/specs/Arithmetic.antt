@@ -1,5 +1,5 @@
 -- Arithmetic instructions (tables 10-1 and 10-2) but for the decimal corrections, in opcode order. Status is of the selected bytes, but for the
--- nibble bits, which are those of the whole words. Assumes nothing.
+-- nibble bits, which are those of the whole words.
 use Prim.Native.Nat.{ℕ, _+_, _-_}
 use Rattle.bits.specs.Bits.{xor, merged, notOf, carryOf, overflowOf}
 use Rattle.machine.specs.declared.Inputs.{Inputs}

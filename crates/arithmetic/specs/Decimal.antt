@@ -1,5 +1,5 @@
 -- The decimal corrections (table 10-2, appendix A), in opcode order. The nibble bits themselves are not affected; Z and N are of the selected
--- bytes, unselected bytes are the source's. Assumes nothing.
+-- bytes, unselected bytes are the source's.
 use mathlib.Core.List.{List, [], _∷_}
 use Prim.Native.Nat.{ℕ, _+_, _-_, _*_}
 use Rattle.bits.specs.Bits.{xor, bitOf, merged, notOf}

@@ -1,4 +1,4 @@
--- The nibble bits, STATUS <31:24> (appendix A): a bit for each of k nibbles, at the nibble's place. Assumes nothing.
+-- The nibble bits, STATUS <31:24> (appendix A): a bit for each of k nibbles, at the nibble's place.
 use Prim.Native.Nat.{ℕ, zero, suc, _+_, _*_, _/_, _%_}
 use lib.Dec.{ltb}
 use Rattle.bits.specs.Bits.{flag}

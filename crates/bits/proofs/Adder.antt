@@ -1,5 +1,5 @@
 -- The adder, bit by bit: a full adder at bit i gives the sum's bit and the carry out of it, so that carry and overflow can be read off the
--- operands and the exact sum. Assumes nothing.
+-- operands and the exact sum.
 use mathlib.Core.Path.{_≡_, sym, ap, ap₂, _∙_, subst}
 use Prim.Native.Nat.{ℕ, suc, _+_, _-_, _*_, _/_, _%_, _^_, _≤_, _<_}
 use native.Mathlib.Nat.{mod-lt, mod-eq-of-lt, lt-of-lt-of-le}

@@ -1,5 +1,5 @@
 -- Numbers bit by bit: what each bitwise operation does to bit i, that numbers with the same bits are equal, and what a masked merge does to
--- each bit. Assumes nothing.
+-- each bit.
 use mathlib.Core.Path.{_≡_, refl, sym, ap, ap₂, _∙_, subst}
 use Prim.Native.Nat.{ℕ, zero, suc, _+_, _-_, _*_, _/_, _%_, _^_, _<_, min, max}
 use native.Mathlib.Nat.{mod-lt, div-one, pow-suc, add-mul}

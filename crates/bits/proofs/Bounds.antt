@@ -1,4 +1,4 @@
--- What stays in range: words below 2 ^ 32, flags below 2. Assumes nothing.
+-- What stays in range: words below 2 ^ 32, flags below 2.
 use mathlib.Core.Path.{_≡_, sym, subst}
 use mathlib.Core.Bool.{Bool, true, false}
 use Prim.Native.Nat.{ℕ, zero, suc, _+_, _-_, _*_, _/_, _%_, _^_, _≤_, _<_}

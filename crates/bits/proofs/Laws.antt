@@ -1,4 +1,4 @@
--- Laws over the number n of selected bits: what the code's masks and shifts are as quotients and remainders. Assumes nothing.
+-- Laws over the number n of selected bits: what the code's masks and shifts are as quotients and remainders.
 use mathlib.Core.Path.{_≡_, refl, sym, ap, ap₂, _∙_, subst}
 use Prim.Native.Nat.{ℕ, zero, suc, _+_, _-_, _*_, _/_, _%_, _^_, _≤_, _<_, min}
 use native.Mathlib.Nat.{mod-add-mod, add-mod-right, mod-lt, mod-eq-of-lt, zero-mul, mul-mod-left, add-zero, one-mul, add-mul, mul-assoc, mul-comm, pow-suc, div-lt-iff-lt-mul}

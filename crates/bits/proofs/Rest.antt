@@ -1,5 +1,5 @@
 -- A `match` on a number against a table: a run of the table is a function of the distance from its start; and a default that knows the number to be
--- none of 0 to n - 1 knows that it lies past them. Assumes nothing.
+-- none of 0 to n - 1 knows that it lies past them.
 use mathlib.Core.Path.{_≡_, refl, sym, ap, _∙_}
 use mathlib.Core.List.{List, [], _∷_}
 use Prim.Native.Nat.{ℕ, zero, suc, _+_, _-_, _≤_, _<_, zero-le}

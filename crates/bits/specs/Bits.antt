@@ -1,5 +1,5 @@
 -- A data word as a plain number below 2 ^ 32, and what the manual's pages say of one: selected bytes, sums with their carry and overflow,
--- masks, rotates, fields, priority and parity. n is a count of selected bits, from the low end; a flag is 0 or 1. Assumes nothing.
+-- masks, rotates, fields, priority and parity. n is a count of selected bits, from the low end; a flag is 0 or 1.
 use mathlib.Core.Bool.{Bool, true, false}
 use Prim.Native.Nat.{ℕ, zero, suc, _+_, _-_, _*_, _/_, _%_, _^_}
 use lib.Bits.{bitAnd, bitOr}

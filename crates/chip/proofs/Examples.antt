@@ -1,4 +1,4 @@
--- The lettered examples of document 01, a to m, worked out by the checker from the definitions: one set, one claim. Assumes nothing.
+-- The lettered examples of document 01, a to m, worked out by the checker from the definitions: one set, one claim.
 use mathlib.Core.Path.{_≡_, refl}
 use mathlib.Core.List.{List, [], _∷_, _++_}
 use Prim.Native.Nat.{ℕ, zero, suc}

@@ -1,5 +1,4 @@
 -- What the layers above may use of the whole-word definition: what a handler's fixed words do, and that every word leaves all in range.
--- Assumes nothing.
 use mathlib.Core.Path.{_≡_, ap, _∙_}
 use Prim.Native.Nat.{ℕ, _^_, _<_}
 use Rattle.bits.specs.Bits.{selected, merged}

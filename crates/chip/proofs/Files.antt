@@ -1,4 +1,4 @@
--- How registers are read and stored: nothing else opens `readAt` and `storeAt`. Assumes nothing.
+-- How registers are read and stored: nothing else opens `readAt` and `storeAt`.
 use mathlib.Core.Path.{_≡_, refl, sym, _∙_}
 use mathlib.Core.List.{List}
 use Prim.Native.Nat.{ℕ, _^_, _<_, _≤_}

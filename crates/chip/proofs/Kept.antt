@@ -1,4 +1,4 @@
--- Every word leaves Y, Q and the status register in range. Assumes nothing.
+-- Every word leaves Y, Q and the status register in range.
 use mathlib.Core.Path.{sym, subst}
 use Prim.Native.Nat.{ℕ, _^_, _<_}
 use lib.Dec.{lit<}

@@ -1,3 +1,4 @@
+-- These proofs assume nothing.
 pub mod Pages
 pub mod Range
 pub mod Kept

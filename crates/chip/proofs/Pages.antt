@@ -1,5 +1,5 @@
 -- The code's table of operations and the manual's glossary are one: the operation that a number decodes to has the meaning of the number's
--- page. Assumes nothing.
+-- page.
 use mathlib.Core.Path.{_≡_, refl, sym, ap, _∙_}
 use mathlib.Core.List.{List, [], _∷_}
 use Prim.Native.Nat.{ℕ, zero, suc}

@@ -1,4 +1,4 @@
--- Ranges of a word's fields: what it says that none is too large. Assumes nothing.
+-- Ranges of a word's fields: what it says that none is too large.
 use mathlib.Core.Path.{_≡_, refl}
 use mathlib.Core.Bool.{Bool, true, false, _||_}
 use Prim.Native.Nat.{ℕ, _≤_}

@@ -1,4 +1,4 @@
--- The single word's table of reasons, row by row; and that no second answer meets its promise. Assumes nothing.
+-- The single word's table of reasons, row by row; and that no second answer meets its promise.
 use mathlib.Core.Path.{_≡_, refl, sym, ap, ap₂, _∙_}
 use mathlib.Core.List.{[], _∷_}
 use mathlib.Core.Bool.{Bool, true, false}

@@ -1,4 +1,4 @@
--- Words one after another: the file keeps its size, and a list runs in two parts. Assumes nothing.
+-- Words one after another: the file keeps its size, and a list runs in two parts.
 use mathlib.Core.Path.{_≡_, refl, _∙_}
 use mathlib.Core.List.{List, [], _∷_, _++_}
 use Prim.Native.Nat.{ℕ, zero, suc}

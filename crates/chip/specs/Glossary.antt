@@ -1,4 +1,4 @@
--- The instruction set glossary: the page of each opcode number, and what a whole word does. Assumes nothing.
+-- The instruction set glossary: the page of each opcode number, and what a whole word does.
 use mathlib.Core.List.{List, [], _∷_}
 use Prim.Native.Nat.{ℕ}
 use lib.ListN.{getD}

@@ -1,3 +1,4 @@
+-- These definitions assume nothing.
 pub mod Glossary
 pub mod Operations
 pub mod Lists

@@ -1,4 +1,4 @@
--- Lists of words on a file of registers. Assumes nothing.
+-- Lists of words on a file of registers.
 use mathlib.Core.List.{List, [], _∷_}
 use Prim.Native.Nat.{ℕ}
 use lib.ListN.{getD, set}

@@ -1,4 +1,4 @@
--- What each opcode number decodes to: a family and a place in it; and the pages that the places stand for. Assumes nothing.
+-- What each opcode number decodes to: a family and a place in it; and the pages that the places stand for.
 use mathlib.Core.List.{List, [], _∷_, _++_}
 use Prim.Native.Nat.{ℕ, zero, suc}
 use lib.ListN.{getD}

@@ -1,4 +1,4 @@
--- The single word: any values handed in, refused in the order 1 Opcode, 2 Inputs, or performed. Assumes nothing.
+-- The single word: any values handed in, refused in the order 1 Opcode, 2 Inputs, or performed.
 use mathlib.Core.List.{List, [], _∷_}
 use mathlib.Core.Bool.{Bool, true, false, _||_}
 use Prim.Native.Nat.{ℕ}

@@ -1,5 +1,5 @@
 -- Appendix B's unsigned division, 75 by 02 in one byte, worked out by the checker from the definitions: each row's Y as printed, and at the
--- end N and the quotient. Assumes nothing.
+-- end N and the quotient.
 use mathlib.Core.Path.{_≡_, refl}
 use mathlib.Core.List.{List, [], _∷_, _++_}
 use Prim.Native.Nat.{ℕ}

@@ -1,4 +1,4 @@
--- Every divide instruction leaves data words and a status register in range. Assumes nothing.
+-- Every divide instruction leaves data words and a status register in range.
 use Prim.Native.Nat.{ℕ, _-_, _%_, _^_, _<_}
 use native.Mathlib.Nat.{mod-lt}
 use native.Mathlib.Omega.{arith}

@@ -1,5 +1,4 @@
--- F is a number in the definitions and a data word in the code: on the selected bits there is no difference, upshifted or not. Assumes
--- nothing.
+-- F is a number in the definitions and a data word in the code: on the selected bits there is no difference, upshifted or not.
 use mathlib.Core.Path.{_≡_, refl, sym, ap, _∙_}
 use Prim.Native.Nat.{ℕ, zero, suc, _-_, _%_, _^_, _≤_, _<_}
 use native.Mathlib.Omega.{arith}

@@ -1,5 +1,5 @@
 -- Divide steps (table 11-1, appendix B), in opcode order. Unselected bytes of Y come from B, unselected bytes of Q are not affected; C is the
--- carry out of F in either mode; the bit shifted out of F is its top selected bit. Assumes nothing.
+-- carry out of F in either mode; the bit shifted out of F is its top selected bit.
 use mathlib.Core.List.{List, [], _∷_}
 use Prim.Native.Nat.{ℕ, _+_, _-_, _%_, _^_}
 use Rattle.bits.specs.Bits.{choose, xor, signOf, zeroOf, merged, notOf, carryOf, overflowOf, putBit}

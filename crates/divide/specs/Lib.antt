@@ -1,2 +1,3 @@
+-- These definitions assume nothing.
 pub mod Steps
 pub mod Divide

@@ -1,4 +1,4 @@
--- What the divide steps share (table 11-1, appendix B): the sum or difference F, the new quotient bit, and the upshift. Assumes nothing.
+-- What the divide steps share (table 11-1, appendix B): the sum or difference F, the new quotient bit, and the upshift.
 use Prim.Native.Nat.{ℕ, _+_, _-_, _*_, _%_, max}
 use Rattle.bits.specs.Bits.{choose, xor, signOf, merged, notOf, carryOf}
 use Rattle.machine.specs.declared.Inputs.{Inputs}

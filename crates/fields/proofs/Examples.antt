@@ -1,5 +1,5 @@
 -- The worked examples of the field pages and of tables 15 and 16, and f and g of document 01, worked out by the checker from the definitions: one set,
--- one claim. A width of 0 is 32. Assumes nothing.
+-- one claim. A width of 0 is 32.
 use mathlib.Core.Path.{_≡_, refl}
 use mathlib.Core.List.{List, [], _∷_}
 use Prim.Native.Nat.{ℕ}

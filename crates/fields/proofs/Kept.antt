@@ -1,4 +1,4 @@
--- Every operation of the quarter leaves Y and Q below 2 ^ 32 and the status register in range, where the operands are below 2 ^ 32. Assumes nothing.
+-- Every operation of the quarter leaves Y and Q below 2 ^ 32 and the status register in range, where the operands are below 2 ^ 32.
 use Prim.Native.Nat.{ℕ, zero, suc, _+_, _-_, _%_, _^_, _≤_, _<_}
 use native.Mathlib.Nat.{mod-lt, le-of-lt}
 use native.Mathlib.Omega.{arith}

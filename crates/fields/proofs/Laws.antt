@@ -1,4 +1,4 @@
--- What the code's tests, shifts and rotates are in the definitions' words. Assumes nothing.
+-- What the code's tests, shifts and rotates are in the definitions' words.
 use mathlib.Core.Path.{_≡_, refl, sym, ap, ap₂, _∙_, subst}
 use Prim.Native.Nat.{ℕ, zero, suc, _+_, _-_, _*_, _/_, _%_, _^_, _≤_, _<_}
 use native.Mathlib.Nat.{lt-of-lt-of-le, zero-mul, one-mul, mul-mod-left, add-zero, mul-one, mod-eq-of-lt, div-eq-of-lt}

@@ -1,4 +1,4 @@
--- Bit-manipulation instructions (tables 14-1 and 14-2), in opcode order. The low five position bits name the bit. Assumes nothing.
+-- Bit-manipulation instructions (tables 14-1 and 14-2), in opcode order. The low five position bits name the bit.
 use Prim.Native.Nat.{ℕ}
 use Rattle.bits.specs.Bits.{xor, bitOf, signOf, zeroOf, putBit}
 use Rattle.machine.specs.declared.Status.{Status}

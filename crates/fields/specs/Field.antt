@@ -1,4 +1,4 @@
--- Field logical instructions (table 15, figure 6) and the mask instruction (table 16), in opcode order. Assumes nothing.
+-- Field logical instructions (table 15, figure 6) and the mask instruction (table 16), in opcode order.
 use mathlib.Core.List.{List, [], _∷_}
 use Prim.Native.Nat.{ℕ, _+_, _-_, _*_, _/_, _%_, _^_}
 use lib.Bits.{bitAnd, bitOr, bitXor}

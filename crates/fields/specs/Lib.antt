@@ -1,3 +1,4 @@
+-- These definitions assume nothing.
 pub mod Position
 pub mod NBit
 pub mod BitManipulation

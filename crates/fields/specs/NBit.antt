@@ -1,4 +1,4 @@
--- N-bit shifts and rotates of the full word (table 13), in opcode order. Assumes nothing.
+-- N-bit shifts and rotates of the full word (table 13), in opcode order.
 use Prim.Native.Nat.{ℕ, _+_, _-_, _*_, _/_, _^_}
 use Rattle.bits.specs.Bits.{signOf, upBy, rotatedUp}
 use Rattle.machine.specs.declared.Inputs.{Inputs}

@@ -1,4 +1,4 @@
--- The position and width inputs of the variable-length instructions (tables 1 and 2). Assumes nothing.
+-- The position and width inputs of the variable-length instructions (tables 1 and 2).
 use Prim.Native.Nat.{ℕ, _-_, _/_, _%_}
 use Rattle.bits.specs.Bits.{choose}
 use Rattle.machine.specs.declared.Inputs.{Inputs}

@@ -1,4 +1,4 @@
--- How the check of the form goes through its table, and that each reason is given exactly when its condition holds. Assumes nothing.
+-- How the check of the form goes through its table, and that each reason is given exactly when its condition holds.
 use mathlib.Core.Path.{_≡_, refl, sym, _∙_}
 use mathlib.Core.List.{List, [], _∷_}
 use mathlib.Core.Bool.{Bool}

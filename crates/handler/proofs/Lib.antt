@@ -1,3 +1,4 @@
+-- These proofs assume nothing.
 pub mod FormLaws
 pub mod OverlapLaws
 pub mod ScheduleLaws

@@ -1,5 +1,5 @@
 -- The registers that words of a sheet name, one more word at a time; and the two sheets' sets meet exactly where some row of the table
--- holds. Assumes nothing.
+-- holds.
 use mathlib.Core.Path.{_≡_, refl, sym, ap, _∙_}
 use mathlib.Core.List.{List, []}
 use mathlib.Core.Bool.{Bool, true, false, not, _&&_, _||_}

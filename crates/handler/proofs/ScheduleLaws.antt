@@ -1,4 +1,4 @@
--- One entry more of a schedule. Assumes nothing.
+-- One entry more of a schedule.
 use mathlib.Core.Path.{_≡_, refl, _∙_}
 use mathlib.Core.List.{List, [], _∷_}
 use mathlib.Core.Bool.{Bool, true, false, _||_}

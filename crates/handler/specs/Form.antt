@@ -1,4 +1,4 @@
--- The handler's form (document 01, 'The handler's form'), as the table of reason 11. Assumes nothing.
+-- The handler's form (document 01, 'The handler's form'), as the table of reason 11.
 use mathlib.Core.List.{List, [], _∷_, _++_}
 use mathlib.Core.Bool.{Bool, _||_}
 use Prim.Native.Nat.{ℕ, _-_}

@@ -1,4 +1,4 @@
--- A register named by both main list and handler, as the table of reason 12. Assumes nothing.
+-- A register named by both main list and handler, as the table of reason 12.
 use mathlib.Core.List.{List, [], _∷_}
 use Prim.Native.Nat.{ℕ}
 use Rattle.reasons.specs.Reasons.{Row, _gives_at_, firstOf, rowsBy}

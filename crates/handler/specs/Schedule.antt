@@ -1,4 +1,4 @@
--- A schedule of boundaries, as the table of reason 13. Assumes nothing.
+-- A schedule of boundaries, as the table of reason 13.
 use mathlib.Core.List.{List, [], _∷_}
 use Prim.Native.Nat.{ℕ}
 use lib.ListN.{length, getD}

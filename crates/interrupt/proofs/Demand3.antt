@@ -1,5 +1,4 @@
 -- DEMAND 3. An interrupted run that is not refused leaves no trace, as the promise of `interrupted` has its answer and its registers.
--- Assumes nothing.
 use mathlib.Core.Path.{_≡_, refl, sym, ap, _∙_, subst}
 use mathlib.Core.List.{List}
 use mathlib.Core.Bool.{Bool, true, false}

@@ -1,4 +1,4 @@
--- A handler whose form is not refused is a handler of the form, and no register is named by both it and the main list. Assumes nothing.
+-- A handler whose form is not refused is a handler of the form, and no register is named by both it and the main list.
 use mathlib.Core.Path.{_≡_, refl, sym, ap, _∙_, subst}
 use mathlib.Core.List.{List, [], _∷_, _++_}
 use mathlib.Core.Bool.{Bool, true, false, _||_, or-true}

@@ -1,5 +1,5 @@
 -- What a step reads and writes: two states that agree on the registers that words name, and on Q and status, agree after them; and a register
--- that no word names stays. Assumes nothing.
+-- that no word names stays.
 use mathlib.Core.Path.{_≡_, refl, sym, ap, _∙_, subst}
 use mathlib.Core.List.{List, [], _∷_}
 use Prim.Native.Nat.{ℕ, zero, suc, _<_}

@@ -1,3 +1,4 @@
+-- These proofs assume nothing.
 pub mod Owners
 pub mod Frame
 pub mod NoTrace

@@ -1,4 +1,4 @@
--- The line-up of a main list and a handler at the boundaries of a schedule is a line of executions, and how long it is. Assumes nothing.
+-- The line-up of a main list and a handler at the boundaries of a schedule is a line of executions, and how long it is.
 use mathlib.Core.Path.{_≡_, sym, ap, _∙_, subst}
 use mathlib.Core.List.{List, [], _∷_, _++_}
 use Prim.Native.Nat.{ℕ, suc, _+_, _*_, _-_, _^_, _≤_, _<_}

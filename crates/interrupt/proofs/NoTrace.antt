@@ -1,4 +1,4 @@
--- An interrupt leaves no trace: what a run of a handler of the form leaves as it was, and demand 3 of any line of executions. Assumes nothing.
+-- An interrupt leaves no trace: what a run of a handler of the form leaves as it was, and demand 3 of any line of executions.
 use mathlib.Core.Path.{_≡_, refl, sym, ap, _∙_, subst}
 use mathlib.Core.List.{List, [], _∷_}
 use Prim.Native.Nat.{ℕ, _<_}

@@ -1,5 +1,5 @@
 -- Which registers words name, what two states have in common, the handler's form as a record, and a line of executions: the words of a main
--- list with a handler let in between them. Assumes nothing.
+-- list with a handler let in between them.
 use mathlib.Core.Path.{_≡_}
 use mathlib.Core.List.{List, [], _∷_, _++_}
 use mathlib.Core.Bool.{true}

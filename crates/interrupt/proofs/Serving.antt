@@ -1,4 +1,4 @@
--- What holds at each turn of an interrupted run. Assumes nothing.
+-- What holds at each turn of an interrupted run.
 use mathlib.Core.Path.{_≡_, sym, ap, _∙_, subst}
 use mathlib.Core.List.{List, _∷_, _++_, append-assoc}
 use Prim.Native.Nat.{ℕ, _+_, _-_, _^_, _≤_, _<_}

@@ -1,4 +1,4 @@
--- A refusal never gives reason 0: an answer with reason 0 was not refused. Assumes nothing.
+-- A refusal never gives reason 0: an answer with reason 0 was not refused.
 use mathlib.Core.Path.{_≡_, refl, ap, _∙_, subst}
 use mathlib.Core.List.{List, [], _∷_, _++_}
 use mathlib.Core.Bool.{Bool, true, false}

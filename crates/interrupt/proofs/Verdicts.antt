@@ -1,4 +1,4 @@
--- What a verdict says of the two sheets and the schedule, and the two ways in which an interrupted run ends. Assumes nothing.
+-- What a verdict says of the two sheets and the schedule, and the two ways in which an interrupted run ends.
 use mathlib.Core.Path.{_≡_, refl, sym, ap, _∙_, subst}
 use mathlib.Core.List.{List, [], _∷_}
 use Prim.Native.Nat.{ℕ, suc, _+_, _^_, _≤_, _<_}

@@ -1,4 +1,4 @@
--- Demand 3: an interrupt leaves no trace, said with the runs of a sheet by itself. Assumes nothing.
+-- Demand 3: an interrupt leaves no trace, said with the runs of a sheet by itself.
 use mathlib.Core.Path.{_≡_}
 use mathlib.Core.List.{List}
 use mathlib.Core.Bool.{true, false}

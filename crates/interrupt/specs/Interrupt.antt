@@ -1,5 +1,5 @@
 -- The interrupted run (document 01, 'The handler's form' and 'Reasons given'): its refusals in their order, each with the mark of the sheet
--- that the fault is in, and what it leaves. Assumes nothing.
+-- that the fault is in, and what it leaves.
 use mathlib.Core.List.{List}
 use Prim.Native.Nat.{ℕ}
 use lib.ListN.{length}

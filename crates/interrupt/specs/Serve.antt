@@ -1,4 +1,4 @@
--- The one line of executions of a main list with a handler let in at the boundaries of a schedule. Assumes nothing.
+-- The one line of executions of a main list with a handler let in at the boundaries of a schedule.
 use mathlib.Core.List.{List, [], _∷_, _++_}
 use Prim.Native.Nat.{ℕ, _≤_}
 use lib.ListN.{drop}

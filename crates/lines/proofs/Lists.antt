@@ -1,4 +1,4 @@
--- A list of numbers, read one by one: the first k are there, the others as they were, and with the next there is one more. Assumes nothing.
+-- A list of numbers, read one by one: the first k are there, the others as they were, and with the next there is one more.
 use mathlib.Core.Path.{_≡_, sym, ap, _∙_}
 use mathlib.Core.List.{List}
 use Prim.Native.Nat.{ℕ, _+_, _*_, _/_, _%_, _≤_, _<_, min}

@@ -1,4 +1,4 @@
--- What stands in a line: hex numbers, highest digit first, and lists of them, one beside the other; and the tally. Assumes nothing.
+-- What stands in a line: hex numbers, highest digit first, and lists of them, one beside the other; and the tally.
 use mathlib.Core.Path.{_≡_}
 use mathlib.Core.List.{List, [], _∷_, _++_}
 use mathlib.Core.Bool.{Bool, true, false}

@@ -1,4 +1,4 @@
--- What is handed back can be handed in again, and what is taken in is in range. Assumes nothing.
+-- What is handed back can be handed in again, and what is taken in is in range.
 use mathlib.Core.Path.{_≡_, ap}
 use Rattle.machine.specs.declared.Status.{Status}
 use Rattle.machine.specs.declared.Machine.{Machine}

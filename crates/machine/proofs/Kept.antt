@@ -1,4 +1,4 @@
--- What most words leave is in range. Assumes nothing.
+-- What most words leave is in range.
 use mathlib.Core.List.{List, [], _∷_}
 use Prim.Native.Nat.{ℕ, zero, suc, _^_, _≤_, _<_}
 use lib.ListN.{getD}

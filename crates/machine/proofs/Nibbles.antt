@@ -1,4 +1,4 @@
--- The nibble bits, apart as they are held and side by side as they are read. Assumes nothing.
+-- The nibble bits, apart as they are held and side by side as they are read.
 use mathlib.Core.Path.{_≡_, refl, sym, ap, _∙_, subst}
 use mathlib.Core.Bool.{Bool, true, false, _&&_}
 use Prim.Native.Nat.{ℕ, zero, suc, _+_, _*_, _/_, _%_, _^_, _≤_, _<_}

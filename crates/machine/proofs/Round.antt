@@ -1,4 +1,4 @@
--- A status that is read and loaded again is the same status; and what is loaded is in range. Assumes nothing.
+-- A status that is read and loaded again is the same status; and what is loaded is in range.
 use mathlib.Core.Path.{_≡_, sym, ap, _∙_}
 use Prim.Native.Nat.{ℕ, _+_, _*_, _/_, _%_, _^_, _<_, max}
 use native.Mathlib.Nat.{div-one}

@@ -1,4 +1,4 @@
--- What the chip keeps between two words, how it is handed in and out, and what one executed word shows. Assumes nothing.
+-- What the chip keeps between two words, how it is handed in and out, and what one executed word shows.
 use Rattle.machine.specs.declared.Machine.{Machine}
 use Rattle.machine.specs.declared.Core.{Core}
 use Rattle.machine.specs.declared.Outputs.{Outputs}

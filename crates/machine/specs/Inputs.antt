@@ -1,4 +1,4 @@
--- What stands at the chip when a word starts, what its switches choose among, and what a word leaves. Assumes nothing.
+-- What stands at the chip when a word starts, what its switches choose among, and what a word leaves.
 use Prim.Native.Nat.{ℕ, zero, suc, _%_, _/_, _^_, _<_}
 use Rattle.bits.specs.Bits.{selected, choose, zeroOf, signOf, merged}
 use Rattle.machine.specs.declared.Status.{Status}

@@ -1,5 +1,5 @@
 -- The status register ('Status Register', figure 3): its fields, the word that a program reads, and the word that it loads. Inside the chip it
--- is held without bits 13, 14, 15 and 23. Assumes nothing.
+-- is held without bits 13, 14, 15 and 23.
 use mathlib.Core.Path.{_≡_}
 use Prim.Native.Nat.{ℕ, zero, suc, _+_, _*_, _/_, _%_, _^_, _<_, max}
 use Rattle.bits.specs.Bits.{xor}

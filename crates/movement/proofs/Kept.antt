@@ -1,4 +1,4 @@
--- Every operation of this crate leaves Y, Q and the status register in range. Assumes nothing.
+-- Every operation of this crate leaves Y, Q and the status register in range.
 use Prim.Native.Nat.{ℕ, _-_, _^_, _≤_, _<_}
 use native.Mathlib.Omega.{arith}
 use Rattle.bits.specs.Bits.{signOf, zeroOf, merged, copies, priorityOf}

@@ -1,1 +1,2 @@
+-- These proofs assume nothing.
 pub mod Kept

@@ -1,4 +1,4 @@
--- Data movement instructions (tables 6-1 to 6-3), in opcode order. Assumes nothing.
+-- Data movement instructions (tables 6-1 to 6-3), in opcode order.
 use Prim.Native.Nat.{ℕ}
 use Rattle.bits.specs.Bits.{signOf, merged, copies}
 use Rattle.machine.specs.declared.Inputs.{Inputs}

@@ -1,3 +1,4 @@
+-- These definitions assume nothing.
 pub mod DataMovement
 pub mod Logical
 pub mod Prioritize

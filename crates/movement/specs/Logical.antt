@@ -1,5 +1,5 @@
 -- Logical instructions (table 7), in opcode order. Z and N are of the selected bytes; unselected bytes come from the source of a one-operand
--- instruction, else from B. Assumes nothing.
+-- instruction, else from B.
 use Prim.Native.Nat.{_-_}
 use lib.Bits.{bitAnd, bitOr, bitXor}
 use Rattle.bits.specs.Bits.{merged, notOf, copies}

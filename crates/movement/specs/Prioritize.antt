@@ -1,4 +1,4 @@
--- Prioritize instructions (tables 4 and 9). Assumes nothing.
+-- Prioritize instructions (tables 4 and 9).
 use Prim.Native.Nat.{ℕ}
 use Rattle.bits.specs.Bits.{zeroOf, priorityOf}
 use Rattle.machine.specs.declared.Inputs.{Inputs}

@@ -1,4 +1,4 @@
--- Bounds over the number n of selected bits: the two extra bits, and the fill of Q. Assumes nothing.
+-- Bounds over the number n of selected bits: the two extra bits, and the fill of Q.
 use mathlib.Core.Path.{_≡_, sym, ap, ap₂, _∙_}
 use Prim.Native.Nat.{ℕ, _+_, _-_, _*_, _/_, _%_, _^_, _≤_, _<_}
 use native.Mathlib.Nat.{mod-lt, mod-mod, mod-eq-of-lt, add-comm, mul-assoc, add-mul-mod-self-right, add-mul-div-right}

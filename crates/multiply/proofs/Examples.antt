@@ -1,4 +1,4 @@
--- Appendix B's unsigned multiplication on one byte, multiplier 65 and multiplicand 48 (hex), worked out by the checker from the definitions. Assumes nothing.
+-- Appendix B's unsigned multiplication on one byte, multiplier 65 and multiplicand 48 (hex), worked out by the checker from the definitions.
 use mathlib.Core.Path.{_≡_, refl}
 use mathlib.Core.List.{List, [], _∷_}
 use Prim.Native.Nat.{ℕ}

@@ -1,4 +1,4 @@
--- A multiply word on words leaves words, and a status register within its bits. Assumes nothing.
+-- A multiply word on words leaves words, and a status register within its bits.
 use Prim.Native.Nat.{ℕ, _^_, _≤_, _<_}
 use lib.ListN.{getD}
 use Rattle.bits.proofs.BitByBit.{bit-lt}

@@ -1,3 +1,4 @@
+-- These proofs assume nothing.
 pub mod Bounds
 pub mod Rows
 pub mod Kept

@@ -1,5 +1,4 @@
 -- The rows of the table: what Q1 Q0 M picks is A* taken Q0 + M times, less twice A* where Q1 is set, modulo the extended width.
--- Assumes nothing.
 use mathlib.Core.Path.{_≡_, sym, ap, ap₂, _∙_}
 use Prim.Native.Nat.{ℕ, zero, suc, _+_, _-_, _*_, _/_, _%_, _^_, _≤_, _<_}
 use native.Mathlib.Nat.{mod-lt, mod-add-mod, add-mul, mul-assoc, mul-le-mul-right}

@@ -1,1 +1,2 @@
+-- These definitions assume nothing.
 pub mod Multiply

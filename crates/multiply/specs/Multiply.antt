@@ -1,5 +1,5 @@
 -- Multiply steps (table 12-1, appendix B), in opcode order: the modified Booth algorithm, two bits a step. The ALU is internally extended by
--- two bits at the byte boundary, so that a value marked * is a number below 2 ^ (n + 2). Assumes nothing.
+-- two bits at the byte boundary, so that a value marked * is a number below 2 ^ (n + 2).
 use mathlib.Core.List.{List, [], _∷_}
 use Prim.Native.Nat.{ℕ, zero, suc, _+_, _-_, _*_, _/_, _%_, _^_}
 use Rattle.bits.specs.Bits.{choose, bitOf, signOf, zeroOf, merged}

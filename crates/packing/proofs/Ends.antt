@@ -1,4 +1,4 @@
--- The ways in which packing and unpacking end, by the row that refuses. Assumes nothing.
+-- The ways in which packing and unpacking end, by the row that refuses.
 use mathlib.Core.Path.{_≡_, refl, ap, _∙_, sym}
 use mathlib.Core.List.{List}
 use mathlib.Core.Bool.{true, false}

@@ -1,3 +1,4 @@
+-- These proofs assume nothing.
 pub mod Numbers
 pub mod Ends
 pub mod RoundTrip

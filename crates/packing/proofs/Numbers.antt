@@ -1,5 +1,5 @@
 -- Laws of one word: no page past 127, which fields are in range, and that a word's number, its fields and its six bytes determine
--- one another. Assumes nothing.
+-- one another.
 use mathlib.Core.Path.{_≡_, refl, ap, _∙_, sym}
 use mathlib.Core.List.{List, [], _∷_, _++_}
 use mathlib.Core.Bool.{Bool, true, false, _||_, true≢false, or-assoc, or-false}

@@ -1,4 +1,4 @@
--- Laws of sets of registers, and of the registers that words name. Assumes nothing.
+-- Laws of sets of registers, and of the registers that words name.
 use mathlib.Core.Path.{_≡_, refl, sym, ap, ap₂, _∙_}
 use mathlib.Core.Bool.{Bool, true, false, not, _||_, or-true}
 use Prim.Native.Nat.{ℕ, zero, suc, _-_, _/_, _%_, _^_, _<_, min, max}

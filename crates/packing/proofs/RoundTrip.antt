@@ -1,4 +1,4 @@
--- Packing and unpacking undo one another, at the level of what `pack` and `unpack` promise. Assumes nothing.
+-- Packing and unpacking undo one another, at the level of what `pack` and `unpack` promise.
 use mathlib.Core.Path.{_≡_, refl, ap, _∙_, sym}
 use mathlib.Core.List.{List, [], _∷_, _++_}
 use mathlib.Core.Bool.{false}

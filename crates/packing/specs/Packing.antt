@@ -1,5 +1,5 @@
 -- A word of a sheet: six bytes, which are one number of 48 bits, most significant first; its fields; packing and unpacking with their
--- reasons (document 01, 'Sheets and words' and 'Reasons given'). Assumes nothing.
+-- reasons (document 01, 'Sheets and words' and 'Reasons given').
 use mathlib.Core.List.{List, [], _∷_, _++_}
 use mathlib.Core.Bool.{Bool, false, not, _||_}
 use Prim.Native.Nat.{ℕ, _+_, _*_, _/_, _%_, _^_, _<_}

@@ -1,5 +1,5 @@
 -- Sets of registers as numbers, register r with weight 2 ^ r, and which registers a word names (document 01, 'The handler's form': all
--- three fields count, used or not). Assumes nothing.
+-- three fields count, used or not).
 use mathlib.Core.List.{List, [], _∷_}
 use mathlib.Core.Bool.{Bool}
 use Prim.Native.Nat.{ℕ, _^_, _<_}

@@ -1,5 +1,5 @@
 -- Tables of rows: a reason is given exactly when its row's condition holds and no earlier one does, proved once for all tables; and how a table
--- goes on after a part of it. Assumes nothing.
+-- goes on after a part of it.
 use mathlib.Core.Path.{_≡_, refl, ap, _∙_, sym, subst}
 use mathlib.Core.List.{List, [], _∷_, _++_}
 use mathlib.Core.Bool.{Bool, true, false, not, _&&_, true≢false, and-assoc}

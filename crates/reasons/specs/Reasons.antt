@@ -1,4 +1,4 @@
--- The reasons given (document 01's table): their numbers, and tables of rows in their order. Assumes nothing.
+-- The reasons given (document 01's table): their numbers, and tables of rows in their order.
 use mathlib.Core.List.{List, [], _∷_, _++_}
 use mathlib.Core.Bool.{Bool, true, false, not, _&&_}
 use Prim.Native.Nat.{ℕ, zero, suc, _+_}

@@ -1,4 +1,4 @@
--- Laws of a step and of the executions one after another. Assumes nothing.
+-- Laws of a step and of the executions one after another.
 use mathlib.Core.Path.{_≡_, refl, ap, sym, subst, _∙_}
 use mathlib.Core.List.{List, [], _∷_}
 use Prim.Native.Nat.{ℕ, zero, suc, _+_, _-_, _^_, _≤_, _<_}

@@ -1,4 +1,4 @@
--- The two ways in which a run ends; running in parts equals running at once; and a run has one outcome. Assumes nothing.
+-- The two ways in which a run ends; running in parts equals running at once; and a run has one outcome.
 use mathlib.Core.Path.{_≡_, ap, ap₂, sym, subst, _∙_}
 use mathlib.Core.List.{List, [], _++_}
 use Prim.Native.Nat.{ℕ, _+_, _-_, _^_, _≤_, _<_, min}

@@ -1,5 +1,5 @@
 -- A run of a sheet on a lent file of registers (document 01, 'Sheets and words' and 'Reasons given'): refused with all as it was, or its
--- executions one after another from a start on. Assumes nothing.
+-- executions one after another from a start on.
 use mathlib.Core.Path.{_≡_}
 use mathlib.Core.List.{List, []}
 use Prim.Native.Nat.{ℕ, _+_, _^_, _<_}

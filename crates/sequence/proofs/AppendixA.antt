@@ -1,5 +1,5 @@
 -- Appendix A's way to the nibble bits and the definition's come to the same, for nibbles above 9 too: its two conditions for a nibble-carry say
--- that digit, digit and nibble-carry reach ten, and a nibble-borrow is the complement of the carry between nibbles. Assumes nothing.
+-- that digit, digit and nibble-carry reach ten, and a nibble-borrow is the complement of the carry between nibbles.
 use mathlib.Core.Path.{_≡_, refl, sym, ap, _∙_, subst}
 use mathlib.Core.Bool.{Bool, true, false, _&&_, _||_}
 use Prim.Native.Nat.{ℕ, zero, suc, _+_, _-_, _*_, _/_, _%_, _^_, _≤_, _<_}

@@ -1,5 +1,5 @@
 -- SUB compares: N xor V is 'signed less than' at every width, whatever the operands. The low bits say whether the sign bits are borrowed from; the
--- rest is a table of two sign bits and that. Assumes nothing.
+-- rest is a table of two sign bits and that.
 use mathlib.Core.Path.{_≡_, refl, sym, ap, ap₂, _∙_, subst}
 use mathlib.Core.Bool.{Bool, true, false}
 use Prim.Native.Nat.{ℕ, suc, _+_, _-_, _*_, _/_, _%_, _^_, _≤_, _<_, max}

@@ -1,4 +1,4 @@
--- Decimal sums and differences come out exact on registers. Assumes nothing.
+-- Decimal sums and differences come out exact on registers.
 use mathlib.Core.Path.{_≡_, refl, sym, ap, _∙_, subst}
 use mathlib.Core.List.{List, [], _∷_}
 use Prim.Native.Nat.{ℕ, zero, suc, _+_, _-_, _*_, _/_, _^_, _≤_, _<_}

@@ -1,5 +1,5 @@
 -- Decimal sums and differences come out exact, on numbers of k nibbles: with its 6 where digit, digit and carry reach ten, each nibble is the
--- decimal digit, and the carry goes on. Assumes nothing.
+-- decimal digit, and the carry goes on.
 use mathlib.Core.Path.{_≡_, refl, sym, ap, _∙_, subst}
 use mathlib.Core.Bool.{Bool, true, false}
 use Prim.Native.Nat.{ℕ, zero, suc, _+_, _-_, _*_, _/_, _%_, _^_, _<_, _≤_}

@@ -1,5 +1,5 @@
 -- Decimal sums and differences come out exact on whole words: what the first word leaves in Y and in the nibble bits is what the correction
--- needs, and the nibbles above the selected ones do not count. Assumes nothing.
+-- needs, and the nibbles above the selected ones do not count.
 use mathlib.Core.Path.{_≡_, sym, ap, ap₂, _∙_, subst}
 use Prim.Native.Nat.{ℕ, zero, suc, _+_, _-_, _*_, _/_, _%_, _^_, _≤_, _<_}
 use native.Mathlib.Nat.{mod-lt, add-mod, mod-add-mod}

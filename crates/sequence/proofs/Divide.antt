@@ -1,4 +1,4 @@
--- The divide sequence comes out exact: each word acts on the selected bits as the step on numbers does. Assumes nothing.
+-- The divide sequence comes out exact: each word acts on the selected bits as the step on numbers does.
 use mathlib.Core.Path.{_≡_, refl, sym, ap, ap₂, _∙_, subst}
 use mathlib.Core.Logic.{_≢_, _⊎_, inl, inr}
 use mathlib.Core.List.{[], _∷_}

@@ -1,6 +1,6 @@
 -- Non-restoring division comes out exact, on numbers: D, B and Q are the selected bits of divisor, partial remainder and dividend, W is 2 to
 -- their number, M and S are 0 or 1. B extended by S is the partial remainder, or that less the divisor where it could not be taken away
--- (M is 0); Q holds the rest of the dividend above the quotient bits found. Assumes nothing.
+-- (M is 0); Q holds the rest of the dividend above the quotient bits found.
 use mathlib.Core.Path.{_≡_, refl, sym, ap, _∙_, subst}
 use mathlib.Core.Logic.{_⊎_, inl, inr}
 use Prim.Native.Nat.{ℕ, zero, suc, _+_, _-_, _*_, _/_, _%_, _^_, _<_, _≤_}

@@ -1,3 +1,4 @@
+-- These proofs assume nothing.
 pub mod Lists
 pub mod MultiplyNumbers
 pub mod Multiply

@@ -1,5 +1,5 @@
 -- From one word on numbers to lists of words on registers: what a word of a sequence does is seen through the selected bits of register b and
--- of Q, and the flags M and S; all else stays. Assumes nothing.
+-- of Q, and the flags M and S; all else stays.
 use mathlib.Core.Path.{_≡_, refl, sym, ap, _∙_, subst}
 use mathlib.Core.Logic.{_≢_}
 use mathlib.Core.List.{List}

@@ -1,4 +1,4 @@
--- The multiply sequence comes out exact: each word acts on the selected bits as the step on numbers does. Assumes nothing.
+-- The multiply sequence comes out exact: each word acts on the selected bits as the step on numbers does.
 use mathlib.Core.Path.{_≡_, refl, sym, ap, _∙_, subst}
 use mathlib.Core.Logic.{_≢_}
 use mathlib.Core.List.{[], _∷_}

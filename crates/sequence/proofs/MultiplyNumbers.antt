@@ -1,6 +1,6 @@
 -- The modified Booth algorithm comes out exact, on numbers: A, B and Q are the selected bits, W is 2 to their number, M is 0 or 1. After k
 -- steps the low k digits (to the base 4) of the multiplier are used up, Q holds the k product digits that are out above the rest of the
--- multiplier, and B is what is carried on, less A where M is set. Assumes nothing.
+-- multiplier, and B is what is carried on, less A where M is set.
 use mathlib.Core.Path.{_≡_, refl, sym, ap, _∙_, subst}
 use mathlib.Core.Logic.{_⊎_, inl, inr}
 use Prim.Native.Nat.{ℕ, zero, suc, _+_, _-_, _*_, _/_, _%_, _^_, _<_, _≤_}

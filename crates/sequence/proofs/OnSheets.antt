@@ -1,5 +1,4 @@
 -- The sequences come out exact as they stand in a sheet: running the sheet gives the product, the quotient and remainder, the decimal result.
--- Assumes nothing.
 use mathlib.Core.Path.{_≡_, sym, ap, _∙_, subst}
 use mathlib.Core.Logic.{_≢_}
 use mathlib.Core.List.{List, _∷_}

@@ -1,4 +1,4 @@
--- How the BCD nibble-carries are formed during addition, as appendix A prints it. Assumes nothing.
+-- How the BCD nibble-carries are formed during addition, as appendix A prints it.
 use mathlib.Core.Bool.{_&&_, _||_}
 use Prim.Native.Nat.{ℕ, zero, suc, _+_, _*_, _/_, _%_}
 use lib.Dec.{ltb, eqb}

@@ -1,4 +1,4 @@
--- Comparison as the scoring boards do it: subtract, and look at status bit 14, N xor V. Assumes nothing.
+-- Comparison as the scoring boards do it: subtract, and look at status bit 14, N xor V.
 use Prim.Native.Nat.{ℕ, _+_, _-_, _%_, _^_}
 use lib.Dec.{ltb}
 use Rattle.bits.specs.Bits.{flag, bitOf}

@@ -1,5 +1,4 @@
 -- Decimal sums and differences: an addition or a subtraction, then at once the matching correction of its Y, on w bytes, w from 1 to 4.
--- Assumes nothing.
 use mathlib.Core.Path.{_≡_}
 use mathlib.Core.Logic.{_≢_}
 use mathlib.Core.List.{List, [], _∷_}

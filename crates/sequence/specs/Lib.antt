@@ -1,3 +1,4 @@
+-- These definitions assume nothing.
 pub mod Sequences
 pub mod Results
 pub mod Decimal

@@ -1,4 +1,4 @@
--- The sequences as they stand in a sheet, and what a run of them leaves. Assumes nothing.
+-- The sequences as they stand in a sheet, and what a run of them leaves.
 use mathlib.Core.Path.{_≡_}
 use mathlib.Core.List.{List}
 use Prim.Native.Nat.{ℕ, _^_, _<_}

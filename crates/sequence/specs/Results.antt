@@ -1,4 +1,4 @@
--- What the sequences come to, from the state t before to the state u after, on the low n bits of register a, register b and Q. Assumes nothing.
+-- What the sequences come to, from the state t before to the state u after, on the low n bits of register a, register b and Q.
 use mathlib.Core.Path.{_≡_}
 use mathlib.Core.Logic.{_≢_}
 use Prim.Native.Nat.{ℕ, _*_, _/_, _%_, _^_, _<_}

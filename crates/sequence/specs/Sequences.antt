@@ -1,4 +1,4 @@
--- The sequences of words that must come out exact, as lists for w bytes, w from 1 to 4. Assumes nothing.
+-- The sequences of words that must come out exact, as lists for w bytes, w from 1 to 4.
 use mathlib.Core.List.{List, [], _∷_}
 use Prim.Native.Nat.{ℕ, zero, suc, _-_, _*_, _/_, _%_}
 use Rattle.chip.specs.declared.Word.{Word}

@@ -1,4 +1,4 @@
--- The executions of a sheet as a list: how many, the next one, and what holds of each. Assumes nothing.
+-- The executions of a sheet as a list: how many, the next one, and what holds of each.
 use mathlib.Core.Path.{_≡_, refl, ap, _∙_, sym}
 use mathlib.Core.List.{List, [], _∷_, _++_}
 use Prim.Native.Nat.{ℕ, zero, suc, _+_, _-_, _≤_, _<_, min}

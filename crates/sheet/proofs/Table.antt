@@ -1,5 +1,5 @@
 -- The table of a sheet: how a check goes through it, that each reason is given exactly when its condition holds and no earlier one does, and
--- what a sheet that passed has. Assumes nothing.
+-- what a sheet that passed has.
 use mathlib.Core.Path.{_≡_, refl, ap, _∙_, sym}
 use mathlib.Core.List.{List, [], _++_}
 use mathlib.Core.Bool.{Bool, false, _||_}

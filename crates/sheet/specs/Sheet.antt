@@ -1,5 +1,5 @@
 -- A sheet: its header, its words, and the reasons for which it is refused, as one ordered table (document 01, 'Sheets and words' and
--- 'Reasons given'). Assumes nothing.
+-- 'Reasons given').
 use mathlib.Core.Path.{_≡_}
 use mathlib.Core.List.{List, [], _∷_, _++_}
 use mathlib.Core.Bool.{Bool, false, _||_}

@@ -1,4 +1,4 @@
--- A flag shifted in at the top of n bits stays within the data word. Assumes nothing.
+-- A flag shifted in at the top of n bits stays within the data word.
 use mathlib.Core.Path.{_≡_}
 use Prim.Native.Nat.{ℕ, _-_, _*_, _%_, _^_, _≤_, _<_}
 use native.Mathlib.Nat.{mod-eq-of-lt, zero-mul, one-mul}

@@ -1,4 +1,4 @@
--- Every single-bit shift leaves Y, Q and the status register in range. Assumes nothing.
+-- Every single-bit shift leaves Y, Q and the status register in range.
 use Prim.Native.Nat.{ℕ, _%_, _^_, _<_}
 use native.Mathlib.Nat.{mod-lt}
 use lib.Dec.{lit<}

@@ -1,5 +1,5 @@
 -- Single-bit shift instructions (tables 8-1 and 8-2), in opcode order. Unselected bytes of Y are the source's, unselected bytes of Q are not
--- affected; Z and N are of the selected bytes of Y. Assumes nothing.
+-- affected; Z and N are of the selected bytes of Y.
 use mathlib.Core.List.{List, [], _∷_}
 use Prim.Native.Nat.{ℕ, _+_, _-_, _*_, _/_, _%_, _^_}
 use Rattle.bits.specs.Bits.{xor, signOf, merged}

@@ -1,4 +1,4 @@
--- Numbers as upper-case hex digits, highest digit first. Assumes nothing.
+-- Numbers as upper-case hex digits, highest digit first.
 use mathlib.Core.List.{List, [], _∷_}
 use mathlib.Core.Bool.{Bool, true, false}
 use Prim.Native.Nat.{ℕ, zero, suc, _+_, _/_, _%_, _^_}

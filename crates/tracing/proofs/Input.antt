@@ -1,4 +1,4 @@
--- The input taken apart: its counts, and its registers one after another. Assumes nothing.
+-- The input taken apart: its counts, and its registers one after another.
 use mathlib.Core.Path.{_≡_, refl, ap, ap₂, sym, subst, _∙_}
 use mathlib.Core.List.{List, []}
 use Prim.Native.Nat.{ℕ, zero, suc, _+_, _*_, _-_, _≤_, _<_}

@@ -1,4 +1,4 @@
--- The text of the lines, one after another in a lent text. Assumes nothing.
+-- The text of the lines, one after another in a lent text.
 use mathlib.Core.Path.{_≡_, refl, ap, ap₂, sym, subst, _∙_}
 use mathlib.Core.List.{List, [], _∷_, _++_, append-assoc, append-nil}
 use Prim.Native.Nat.{ℕ, suc, _+_, _*_, _/_, _%_, _≤_, _<_}

@@ -1,4 +1,4 @@
--- What is written into a lent text, and what the rest of it holds. Assumes nothing.
+-- What is written into a lent text, and what the rest of it holds.
 use mathlib.Core.Path.{_≡_}
 use mathlib.Core.List.{List, _++_}
 use Prim.Native.Nat.{ℕ, _+_, _*_, _≤_}

@@ -1,4 +1,4 @@
--- What the trace program reads (document 01, its last example): a sheet and then its declared registers. Assumes nothing.
+-- What the trace program reads (document 01, its last example): a sheet and then its declared registers.
 use mathlib.Core.List.{List, [], _∷_}
 use Prim.Native.Nat.{ℕ, zero, suc, _+_, _*_}
 use lib.ListN.{getD}

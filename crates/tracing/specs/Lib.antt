@@ -1,3 +1,4 @@
+-- These definitions assume nothing.
 pub mod Input
 pub mod Lines
 pub mod Fill

@@ -1,4 +1,4 @@
--- What the trace program writes: a line for each execution, and a last line of its own kind. Assumes nothing.
+-- What the trace program writes: a line for each execution, and a last line of its own kind.
 use mathlib.Core.List.{List, [], _∷_, _++_}
 use Prim.Native.Nat.{ℕ, _+_, _/_, _%_}
 use lib.ListN.{length}

@@ -1,4 +1,4 @@
--- The handler's check as numbers. Assumes nothing.
+-- The handler's check as numbers.
 use borrow.Author.Needs.{needs}
 use Rattle.am29332.proofs.am29332_check_handler.Statement.{statement}
 use Rattle.am29332.proofs.am29332_check_handler.Tie as tie

@@ -1,4 +1,4 @@
--- The sheet's check as numbers. Assumes nothing.
+-- The sheet's check as numbers.
 use borrow.Author.Needs.{needs}
 use Rattle.am29332.proofs.am29332_check_sheet.Statement.{statement}
 use Rattle.am29332.proofs.am29332_check_sheet.Tie as tie

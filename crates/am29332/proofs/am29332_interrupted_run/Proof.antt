@@ -1,4 +1,4 @@
--- What the interrupted run leaves, its reason and place as numbers. Assumes nothing.
+-- What the interrupted run leaves, its reason and place as numbers.
 use mathlib.Core.Path.{ap}
 use Rattle.am29332.specs.Numbers.{interruptedNumbers}
 use borrow.Author.Needs.{needs}

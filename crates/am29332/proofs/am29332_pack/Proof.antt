@@ -1,4 +1,4 @@
--- What packing leaves, its check as numbers. Assumes nothing.
+-- What packing leaves, its check as numbers.
 use mathlib.Core.Path.{ap}
 use Rattle.am29332.specs.Numbers.{packNumbers}
 use borrow.Author.Needs.{needs}

@@ -1,4 +1,4 @@
--- What the run leaves, its reason and place as numbers. Assumes nothing.
+-- What the run leaves, its reason and place as numbers.
 use mathlib.Core.Path.{ap}
 use Rattle.am29332.specs.Numbers.{runNumbers}
 use borrow.Author.Needs.{needs}

@@ -1,4 +1,4 @@
--- The chip's answer, its reason and place as numbers. Assumes nothing.
+-- The chip's answer, its reason and place as numbers.
 use borrow.Author.Needs.{needs}
 use Rattle.am29332.proofs.am29332_single_word.Statement.{statement}
 use Rattle.am29332.proofs.am29332_single_word.Tie as tie

@@ -1,4 +1,4 @@
--- The unpacked word, its check as numbers. Assumes nothing.
+-- The unpacked word, its check as numbers.
 use borrow.Author.Needs.{needs}
 use Rattle.am29332.proofs.am29332_unpack.Statement.{statement}
 use Rattle.am29332.proofs.am29332_unpack.Tie as tie

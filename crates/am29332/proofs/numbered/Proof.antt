@@ -1,4 +1,4 @@
--- The number is document 01's. Assumes nothing.
+-- The number is document 01's.
 use borrow.Author.Needs.{needs}
 use Rattle.am29332.proofs.numbered.Statement.{statement}
 use Rattle.am29332.proofs.numbered.Tie as tie

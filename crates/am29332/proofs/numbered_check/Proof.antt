@@ -1,4 +1,4 @@
--- Each arm is a case of the definition. Assumes nothing.
+-- Each arm is a case of the definition.
 use borrow.Author.Needs.{needs}
 use Rattle.am29332.proofs.numbered_check.Statement.{statement}
 use Rattle.am29332.proofs.numbered_check.Tie as tie

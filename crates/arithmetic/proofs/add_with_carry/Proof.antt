@@ -1,4 +1,4 @@
--- With the carry that macro select chooses. Assumes nothing.
+-- With the carry that macro select chooses.
 use mathlib.Core.Path.{_∙_}
 use borrow.Author.Needs.{needs}
 use Rattle.arithmetic.proofs.add_with_carry.Statement.{statement}

@@ -1,4 +1,4 @@
--- Y, Z and N are of the wrapped sum, which is the sum in the selected bytes; C and V as the leaves give them. Assumes nothing.
+-- Y, Z and N are of the wrapped sum, which is the sum in the selected bytes; C and V as the leaves give them.
 use native.Mathlib.Omega.{arith}
 use Prim.Native.Nat.{ℕ, _+_}
 use Rattle.bits.specs.Bits.{xor, carryOf, overflowOf}

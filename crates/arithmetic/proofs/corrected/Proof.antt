@@ -1,4 +1,4 @@
--- Y, Z and N of the corrected word; V of the two top nibble bits. Assumes nothing.
+-- Y, Z and N of the corrected word; V of the two top nibble bits.
 use borrow.Author.Needs.{needs}
 use Rattle.arithmetic.proofs.corrected.Statement.{statement}
 use Rattle.arithmetic.proofs.corrected.Tie as tie

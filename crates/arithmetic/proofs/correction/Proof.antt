@@ -1,4 +1,4 @@
--- Six times bits that are four apart fits the word. Assumes nothing.
+-- Six times bits that are four apart fits the word.
 use native.Mathlib.Omega.{arith}
 use Rattle.machine.proofs.Nibbles.{apart-le}
 use borrow.Author.Needs.{needs}

@@ -1,5 +1,4 @@
 -- Each arm's call gives the entry of `decimals` at its number, and the default's the last entry. Written by tools/dispatch_proofs.py.
--- Assumes nothing.
 use mathlib.Core.Path.{refl}
 use Rattle.bits.proofs.Rest.{last-entry}
 use Rattle.arithmetic.specs.Decimal.{decimals, DIFF-CORR-B}

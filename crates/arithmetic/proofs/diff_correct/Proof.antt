@@ -1,4 +1,4 @@
--- The correction word is subtracted in 32 bits, and the difference is cut to the selected bytes. Assumes nothing.
+-- The correction word is subtracted in 32 bits, and the difference is cut to the selected bytes.
 use Prim.Native.Nat.{ℕ, _+_, _-_}
 use Rattle.bits.specs.Bits.{xor, notOf}
 use Rattle.machine.specs.declared.Inputs.{Inputs}

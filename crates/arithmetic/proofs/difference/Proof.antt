@@ -1,4 +1,4 @@
--- The wrapped difference and the nibble borrows, as `added` takes them. Assumes nothing.
+-- The wrapped difference and the nibble borrows, as `added` takes them.
 use Rattle.arithmetic.specs.Arithmetic.{difference}
 use borrow.Author.Needs.{needs}
 use Rattle.arithmetic.proofs.difference.Statement.{statement}

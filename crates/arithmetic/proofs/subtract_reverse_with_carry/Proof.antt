@@ -1,4 +1,4 @@
--- With the carry that macro select chooses, inverted in borrow mode. Assumes nothing.
+-- With the carry that macro select chooses, inverted in borrow mode.
 use mathlib.Core.Path.{_∙_}
 use borrow.Author.Needs.{needs}
 use Rattle.arithmetic.proofs.subtract_reverse_with_carry.Statement.{statement}

@@ -1,4 +1,4 @@
--- The wrapped sum and the nibble carries, as `added` takes them. Assumes nothing.
+-- The wrapped sum and the nibble carries, as `added` takes them.
 use Rattle.arithmetic.specs.Arithmetic.{sum}
 use borrow.Author.Needs.{needs}
 use Rattle.arithmetic.proofs.sum.Statement.{statement}

@@ -1,4 +1,4 @@
--- The correction word is added in 32 bits, and the sum is cut to the selected bytes. Assumes nothing.
+-- The correction word is added in 32 bits, and the sum is cut to the selected bytes.
 use Prim.Native.Nat.{ℕ, _+_}
 use native.Mathlib.Nat.{add-zero}
 use Rattle.bits.specs.Bits.{xor}

@@ -1,4 +1,4 @@
--- The bit that the width names. Assumes nothing.
+-- The bit that the width names.
 use mathlib.Core.Path.{_∙_, sym, subst}
 use Prim.Native.Nat.{ℕ, _<_}
 use Rattle.bits.proofs.BitByBit.{bit-lt}

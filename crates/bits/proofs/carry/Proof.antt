@@ -1,4 +1,4 @@
--- The carry out of the top selected bit is where the sum differs from its operands: `carry-read`. Assumes nothing.
+-- The carry out of the top selected bit is where the sum differs from its operands: `carry-read`.
 use Rattle.bits.proofs.Adder.{carry-read}
 use borrow.Author.Needs.{needs}
 use Rattle.bits.proofs.carry.Statement.{statement}

@@ -1,4 +1,4 @@
--- A bit taken out by the complement of its weight: `put-zero`. Assumes nothing.
+-- A bit taken out by the complement of its weight: `put-zero`.
 use native.Mathlib.Omega.{arith}
 use Rattle.bits.proofs.Laws.{put-zero, one-shl}
 use borrow.Author.Needs.{needs}

@@ -1,4 +1,4 @@
--- A mask of low bits gives a remainder. Assumes nothing.
+-- A mask of low bits gives a remainder.
 use mathlib.Core.Path.{ap, _∙_}
 use lib.Bits.{bitAnd, and-mask}
 use borrow.Author.Needs.{needs}

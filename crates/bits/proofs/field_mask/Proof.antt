@@ -1,4 +1,4 @@
--- A mask of low bits, shifted up. Assumes nothing.
+-- A mask of low bits, shifted up.
 use Rattle.bits.specs.Bits.{fieldMask}
 use borrow.Author.Needs.{needs}
 use Rattle.bits.proofs.field_mask.Statement.{statement}

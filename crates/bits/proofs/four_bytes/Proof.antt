@@ -1,4 +1,4 @@
--- The bytes turned stand highest first. Assumes nothing.
+-- The bytes turned stand highest first.
 use mathlib.Core.Path.{_∙_}
 use native.Mathlib.Omega.{arith}
 use Rattle.bits.proofs.Laws.{turned-low}

@@ -1,4 +1,4 @@
--- The test on the bits at the top is the definition's: `top-zero`. Assumes nothing.
+-- The test on the bits at the top is the definition's: `top-zero`.
 use mathlib.Core.Path.{sym, ap, _∙_}
 use borrow.Author.Tests.{eq-eqb, ne-eqb}
 use Rattle.bits.specs.Bits.{zeroOf, flag}

@@ -1,4 +1,4 @@
--- Ones shifted down until n are left. Assumes nothing.
+-- Ones shifted down until n are left.
 use native.Mathlib.Omega.{arith}
 use Rattle.bits.proofs.Laws.{ones-shr}
 use borrow.Author.Needs.{needs}

@@ -1,4 +1,4 @@
--- Two words joined by a mask and its complement. Assumes nothing.
+-- Two words joined by a mask and its complement.
 use native.Mathlib.Omega.{arith}
 use Rattle.bits.proofs.Laws.{merge-law}
 use borrow.Author.Needs.{needs}

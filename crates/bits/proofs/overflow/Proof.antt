@@ -1,4 +1,4 @@
--- The carries into and out of the top selected bit: `overflow-read`. Assumes nothing.
+-- The carries into and out of the top selected bit: `overflow-read`.
 use mathlib.Core.Path.{_∙_}
 use Rattle.bits.proofs.Adder.{overflow-read}
 use borrow.Author.Needs.{needs}

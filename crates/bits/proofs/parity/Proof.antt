@@ -1,4 +1,4 @@
--- The counts of the four bytes, as the definition has them. Assumes nothing.
+-- The counts of the four bytes, as the definition has them.
 use mathlib.Core.Path.{refl}
 use Rattle.bits.specs.Bits.{parityOf}
 use borrow.Author.Needs.{needs}

@@ -1,4 +1,4 @@
--- The leading zeros of 32 bits, less those above the selected ones. Assumes nothing.
+-- The leading zeros of 32 bits, less those above the selected ones.
 use mathlib.Core.Path.{_≡_, sym, _∙_}
 use Prim.Native.Nat.{_+_, _-_}
 use native.Mathlib.Nat.{mod-lt}

@@ -1,4 +1,4 @@
--- By 0 nothing moves; else the two parts change places: `rotate-law`. Assumes nothing.
+-- By 0 nothing moves; else the two parts change places: `rotate-law`.
 use mathlib.Core.Path.{_≡_}
 use native.Mathlib.Omega.{arith}
 use Rattle.bits.specs.Bits.{rotatedUp}

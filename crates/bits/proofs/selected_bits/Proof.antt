@@ -1,4 +1,4 @@
--- Four codes, each by computation. Assumes nothing.
+-- Four codes, each by computation.
 use mathlib.Core.Path.{_≡_, refl}
 use Prim.Native.Nat.{ℕ, zero, suc, _-_, _*_, _%_, _≤_, _<_}
 use native.Mathlib.Omega.{arith}

@@ -1,4 +1,4 @@
--- A bit put in by its weight: `put-one`. Assumes nothing.
+-- A bit put in by its weight: `put-one`.
 use native.Mathlib.Omega.{arith}
 use Rattle.bits.proofs.Laws.{put-one, one-shl}
 use borrow.Author.Needs.{needs}

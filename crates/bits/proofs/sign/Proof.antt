@@ -1,4 +1,4 @@
--- The highest of the bits at the top: `top-sign`. Assumes nothing.
+-- The highest of the bits at the top: `top-sign`.
 use mathlib.Core.Path.{ap, _∙_}
 use Prim.Native.Nat.{ℕ, _/_, _^_}
 use native.Mathlib.Omega.{arith}

@@ -1,4 +1,4 @@
--- One bit of a number, in its place: `and-bit`. Assumes nothing.
+-- One bit of a number, in its place: `and-bit`.
 use native.Mathlib.Omega.{arith}
 use Prim.Native.Nat.{_-_}
 use Rattle.bits.proofs.Laws.{and-bit, one-shl}

@@ -1,4 +1,4 @@
--- Two wrapped differences are one wrapped sum with the complement: `sub-wrap`. Assumes nothing.
+-- Two wrapped differences are one wrapped sum with the complement: `sub-wrap`.
 use native.Mathlib.Omega.{arith}
 use Rattle.bits.proofs.Laws.{sub-wrap}
 use borrow.Author.Needs.{needs}

@@ -1,4 +1,4 @@
--- The bits that stay when a word is shifted up: `shl-law`. Assumes nothing.
+-- The bits that stay when a word is shifted up: `shl-law`.
 use mathlib.Core.Path.{_≡_, ap, _∙_}
 use Prim.Native.Nat.{ℕ, _-_, _*_, _%_, _^_}
 use native.Mathlib.Omega.{arith}

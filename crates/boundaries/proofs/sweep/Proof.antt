@@ -1,4 +1,4 @@
--- The boundaries left fall. Assumes nothing.
+-- The boundaries left fall.
 use mathlib.Core.Path.{_≡_}
 use Prim.Native.Nat.{_-_}
 use native.Mathlib.Omega.{arith}

@@ -1,4 +1,4 @@
--- The test of the inputs is the table's second row. Assumes nothing.
+-- The test of the inputs is the table's second row.
 use mathlib.Core.Path.{sym, _∙_}
 use Rattle.chip.proofs.Range.{in-range}
 use Rattle.chip.proofs.Single.{refused-inputs, answered}

@@ -1,4 +1,4 @@
--- The operation that the number decodes to does what the whole word does, and leaves the status register in range. Assumes nothing.
+-- The operation that the number decodes to does what the whole word does, and leaves the status register in range.
 use mathlib.Core.Path.{ap}
 use native.Mathlib.Omega.{arith}
 use Rattle.machine.specs.declared.Outputs.{Outputs}

@@ -1,4 +1,4 @@
--- Each range, and each gap between two, is a run of the table; past 7F there is nothing. Assumes nothing.
+-- Each range, and each gap between two, is a run of the table; past 7F there is nothing.
 use mathlib.Core.Path.{refl, sym}
 use Prim.Native.Nat.{_-_}
 use native.Mathlib.Omega.{arith}

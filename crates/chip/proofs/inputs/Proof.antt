@@ -1,4 +1,4 @@
--- The fields as they are, and the core as it is taken in. Assumes nothing.
+-- The fields as they are, and the core as it is taken in.
 use borrow.Author.Needs.{needs}
 use Rattle.chip.proofs.inputs.Statement.{statement}
 use Rattle.chip.proofs.inputs.Tie as tie

@@ -1,4 +1,4 @@
--- A number has a page exactly where it decodes to an operation. Assumes nothing.
+-- A number has a page exactly where it decodes to an operation.
 use borrow.Author.Needs.{needs}
 use Rattle.chip.proofs.Pages.{lacks-decoded}
 use Rattle.chip.proofs.lacks_page.Statement.{statement}

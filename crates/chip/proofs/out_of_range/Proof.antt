@@ -1,4 +1,4 @@
--- The definition's seven tests. Assumes nothing.
+-- The definition's seven tests.
 use mathlib.Core.Path.{refl}
 use Rattle.chip.specs.Single.{outOfRange}
 use Rattle.chip.proofs.out_of_range.Statement.{statement}

@@ -1,4 +1,4 @@
--- Each arm's family gives the page of its place. Assumes nothing.
+-- Each arm's family gives the page of its place.
 use borrow.Author.Needs.{needs}
 use Rattle.chip.proofs.perform.Statement.{statement}
 use Rattle.chip.proofs.perform.Tie as tie

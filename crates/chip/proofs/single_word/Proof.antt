@@ -1,4 +1,4 @@
--- What the opcode decodes to is the table's first row. Assumes nothing.
+-- What the opcode decodes to is the table's first row.
 use mathlib.Core.Path.{sym, _∙_}
 use Rattle.chip.proofs.Single.{refused-opcode}
 use borrow.Author.Needs.{needs}

@@ -1,4 +1,4 @@
--- The cases left fall. Assumes nothing.
+-- The cases left fall.
 use Prim.Native.Nat.{_-_}
 use borrow.Author.Needs.{needs}
 use Rattle.digest.proofs.digest.Statement.{statement}

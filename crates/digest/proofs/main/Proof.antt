@@ -1,4 +1,4 @@
--- The numbers left fall. Assumes nothing.
+-- The numbers left fall.
 use Prim.Native.Nat.{_-_}
 use borrow.Author.Needs.{needs}
 use Rattle.digest.proofs.main.Statement.{statement}

@@ -1,5 +1,4 @@
 -- Each arm's call gives the page of its number, and no number below 128 is left to the default. Written by tools/dispatch_proofs.py.
--- Assumes nothing.
 use Rattle.chip.proofs.Pages.{at, past-all}
 use borrow.Author.Needs.{needs}
 use Rattle.dispatch.proofs.operate.Statement.{statement}

@@ -1,4 +1,4 @@
--- By the test F is B, or the sum with one or its complement. Assumes nothing.
+-- By the test F is B, or the sum with one or its complement.
 use mathlib.Core.Path.{_≡_, sym, _∙_}
 use Rattle.bits.proofs.Laws.{choose-zero, choose-one, merged-wrap}
 use Rattle.machine.specs.declared.Inputs.{Inputs}

@@ -1,4 +1,4 @@
--- L copied into S. Assumes nothing.
+-- L copied into S.
 use borrow.Author.Needs.{needs}
 use Rattle.divide.proofs.link_to_s.Statement.{statement}
 use Rattle.divide.proofs.link_to_s.Tie as tie

@@ -1,4 +1,4 @@
--- The step on the selected bytes, with carry and link. Assumes nothing.
+-- The step on the selected bytes, with carry and link.
 use Rattle.divide.specs.Divide.{MPSDIVSTEP3}
 use Rattle.machine.proofs.Kept.{bits-le}
 use Rattle.divide.proofs.Laws.{merged-up, sign-wrap, zero-up}

@@ -1,4 +1,4 @@
--- The step on the full word, with the sign bit of Q. Assumes nothing.
+-- The step on the full word, with the sign bit of Q.
 use Rattle.divide.specs.Divide.{MPDIVSTEP1}
 use borrow.Author.Needs.{needs}
 use Rattle.divide.proofs.multiprecision_step_1.Statement.{statement}

@@ -1,4 +1,4 @@
--- The step on the full word, with carry and link. Assumes nothing.
+-- The step on the full word, with carry and link.
 use Rattle.divide.specs.Divide.{MPDIVSTEP2}
 use borrow.Author.Needs.{needs}
 use Rattle.divide.proofs.multiprecision_step_2.Statement.{statement}

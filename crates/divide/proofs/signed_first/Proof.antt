@@ -1,4 +1,4 @@
--- B upshifted, and the exclusive NOR of the signs. Assumes nothing.
+-- B upshifted, and the exclusive NOR of the signs.
 use Rattle.divide.specs.Divide.{SDIVFIRST}
 use Rattle.bits.proofs.Laws.{merged-wrap, zero-wrap}
 use Rattle.machine.proofs.Kept.{bits-le}

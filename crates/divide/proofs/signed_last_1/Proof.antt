@@ -1,4 +1,4 @@
--- F as it is. Assumes nothing.
+-- F as it is.
 use Rattle.divide.specs.Divide.{SDIVLAST1}
 use Rattle.bits.proofs.Laws.{merged-wrap, zero-wrap}
 use Rattle.machine.proofs.Kept.{bits-le}

@@ -1,4 +1,4 @@
--- The divisor's sign says whether A is added or its complement. Assumes nothing.
+-- The divisor's sign says whether A is added or its complement.
 use Rattle.bits.proofs.Laws.{merged-wrap, zero-wrap}
 use Rattle.divide.specs.Divide.{SDIVLAST2}
 use Rattle.machine.proofs.Kept.{bits-le}

@@ -1,4 +1,4 @@
--- F upshifted; Z and N are of the upshifted value. Assumes nothing.
+-- F upshifted; Z and N are of the upshifted value.
 use Rattle.divide.specs.Divide.{SDIVSTEP}
 use Rattle.bits.proofs.Laws.{merged-wrap, zero-wrap}
 use Rattle.machine.proofs.Kept.{bits-le}

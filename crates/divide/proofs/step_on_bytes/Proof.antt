@@ -1,4 +1,4 @@
--- The leaves on the selected bits. Assumes nothing.
+-- The leaves on the selected bits.
 use Rattle.bits.proofs.Laws.{merged-wrap, zero-wrap}
 use Rattle.machine.proofs.Kept.{bits-le}
 use borrow.Author.Needs.{needs}

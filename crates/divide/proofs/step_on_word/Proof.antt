@@ -1,4 +1,4 @@
--- F on the full word; its wrapped value upshifts as it does. Assumes nothing.
+-- F on the full word; its wrapped value upshifts as it does.
 use Prim.Native.Nat.{_≤_}
 use native.Mathlib.Omega.{arith}
 use Rattle.divide.proofs.Laws.{sign-wrap, up-wrap}

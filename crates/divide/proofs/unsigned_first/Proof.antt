@@ -1,4 +1,4 @@
--- B upshifted. Assumes nothing.
+-- B upshifted.
 use Rattle.divide.specs.Divide.{UDIVFIRST}
 use Rattle.bits.proofs.Laws.{merged-wrap, zero-wrap}
 use Rattle.machine.proofs.Kept.{bits-le}

@@ -1,4 +1,4 @@
--- The step on the selected bytes, with the sign bit of Q; S is L. Assumes nothing.
+-- The step on the selected bytes, with the sign bit of Q; S is L.
 use Rattle.divide.specs.Divide.{UDIVSTEP}
 use Rattle.machine.proofs.Kept.{bits-le}
 use Rattle.divide.proofs.Laws.{merged-up, sign-wrap, zero-up}

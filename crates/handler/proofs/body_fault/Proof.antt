@@ -1,4 +1,4 @@
--- What the word names is asked. Assumes nothing.
+-- What the word names is asked.
 use Rattle.handler.specs.Form.{bodyFault}
 use borrow.Author.Needs.{needs}
 use Rattle.handler.proofs.body_fault.Statement.{statement}

@@ -1,4 +1,4 @@
--- An entry of 16 bits is an index. Assumes nothing.
+-- An entry of 16 bits is an index.
 use native.Mathlib.Omega.{arith}
 use borrow.Author.Needs.{needs}
 use Rattle.handler.proofs.boundary.Statement.{statement}

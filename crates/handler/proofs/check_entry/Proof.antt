@@ -1,4 +1,4 @@
--- Three rows of one reason and place are one test. Assumes nothing.
+-- Three rows of one reason and place are one test.
 use mathlib.Core.Path.{refl, sym, _∙_}
 use lib.Dec.{ltb, leb}
 use Rattle.reasons.specs.declared.Reason.the-variants.{Schedule}

@@ -1,4 +1,4 @@
--- The sheet's own table, then that of the form. Assumes nothing.
+-- The sheet's own table, then that of the form.
 use mathlib.Core.Path.{sym, _∙_}
 use denote.Ref.{now}
 use Rattle.sheet.specs.declared.Given.the-variants.{Absent}

@@ -1,4 +1,4 @@
--- The loop looks for the first row that holds (`Scan`), and `last` is what stands before entry j. The measure is the entries left. Assumes nothing.
+-- The loop looks for the first row that holds (`Scan`), and `last` is what stands before entry j. The measure is the entries left.
 use mathlib.Core.Path.{_≡_, refl, sym, _∙_}
 use mathlib.Core.List.{_∷_}
 use Prim.Native.Nat.{_-_}

@@ -1,4 +1,4 @@
--- Each return is a clause of the definition whose earlier tests fail. Assumes nothing.
+-- Each return is a clause of the definition whose earlier tests fail.
 use mathlib.Core.Path.{refl, sym, _∙_}
 use native.Mathlib.Omega.{arith}
 use borrow.Author.Tests.{eq-eqb, ne-eqb}

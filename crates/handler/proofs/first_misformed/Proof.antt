@@ -1,4 +1,4 @@
--- The loop looks for the first row that holds (`Scan`). The measure is the words left. Assumes nothing.
+-- The loop looks for the first row that holds (`Scan`). The measure is the words left.
 use mathlib.Core.Path.{sym, ap, _∙_}
 use Prim.Native.Nat.{_-_}
 use native.Mathlib.Omega.{arith}

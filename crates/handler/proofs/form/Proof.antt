@@ -1,4 +1,4 @@
--- Under six words, or six and more. Assumes nothing.
+-- Under six words, or six and more.
 use mathlib.Core.Path.{_∙_}
 use denote.Ref.{now}
 use Rattle.handler.proofs.FormLaws.{form-short, form-long}

@@ -1,4 +1,4 @@
--- A test that the common part is not zero. Assumes nothing.
+-- A test that the common part is not zero.
 use Rattle.packing.specs.Registers.{common}
 use borrow.Author.Needs.{needs}
 use Rattle.handler.proofs.meet.Statement.{statement}

@@ -1,4 +1,4 @@
--- What was met, and what is left, is the whole (`Gathering`). The measure is the words left. Assumes nothing.
+-- What was met, and what is left, is the whole (`Gathering`). The measure is the words left.
 use mathlib.Core.Path.{ap, _∙_}
 use Prim.Native.Nat.{_-_}
 use native.Mathlib.Omega.{arith}

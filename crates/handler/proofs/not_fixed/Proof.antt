@@ -1,4 +1,4 @@
--- The definition's tests, in its order. Assumes nothing.
+-- The definition's tests, in its order.
 use mathlib.Core.Path.{refl}
 use Rattle.handler.specs.Form.{notFixed}
 use Rattle.handler.proofs.not_fixed.Statement.{statement}

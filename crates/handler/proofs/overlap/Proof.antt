@@ -1,4 +1,4 @@
--- Where the sets do not meet no row holds; else the first is looked for. Assumes nothing.
+-- Where the sets do not meet no row holds; else the first is looked for.
 use mathlib.Core.Path.{sym, ap, ap₂, _∙_}
 use Prim.Native.Nat.{ℕ}
 use denote.Ref.{now}

@@ -1,4 +1,4 @@
--- Two sets of one together. Assumes nothing.
+-- Two sets of one together.
 use borrow.Author.Needs.{needs}
 use Rattle.handler.proofs.saves.Statement.{statement}
 use Rattle.handler.proofs.saves.Tie as tie

@@ -1,4 +1,4 @@
--- The definition's tests, in its order. Assumes nothing.
+-- The definition's tests, in its order.
 use Rattle.handler.specs.Form.{savingStatusFault}
 use borrow.Author.Needs.{needs}
 use Rattle.handler.proofs.saving_status_fault.Statement.{statement}

@@ -1,4 +1,4 @@
--- The pairs left fall. Assumes nothing.
+-- The pairs left fall.
 use Prim.Native.Nat.{_-_}
 use borrow.Author.Needs.{needs}
 use Rattle.incident.proofs.main.Statement.{statement}

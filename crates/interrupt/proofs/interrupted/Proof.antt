@@ -1,4 +1,4 @@
--- Refused as judged; or served, and what went is what the one line of executions gives. Assumes nothing.
+-- Refused as judged; or served, and what went is what the one line of executions gives.
 use mathlib.Core.Path.{sym, _∙_}
 use lib.ListN.{length}
 use denote.Ref.{now}

@@ -1,4 +1,4 @@
--- The two sheets' own reasons, then the pair's. Assumes nothing.
+-- The two sheets' own reasons, then the pair's.
 use mathlib.Core.Path.{sym, _∙_}
 use Rattle.sheet.specs.declared.Given.the-variants.{Absent}
 use Rattle.sheet.proofs.Table.{ready}

@@ -1,4 +1,4 @@
--- Each return is the first of the three checks that is not good. Assumes nothing.
+-- Each return is the first of the three checks that is not good.
 use mathlib.Core.Path.{sym, _∙_}
 use denote.Ref.{now}
 use Rattle.interrupt.proofs.Verdicts.{pair-form, pair-overlap, pair-schedule}

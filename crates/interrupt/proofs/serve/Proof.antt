@@ -1,4 +1,4 @@
--- What is left, run and counted from here, ends as the whole does from its start (`Serving`). The measure is the entries left. Assumes nothing.
+-- What is left, run and counted from here, ends as the whole does from its start (`Serving`). The measure is the entries left.
 use mathlib.Core.Path.{refl, _∙_}
 use Prim.Native.Nat.{_-_, _≤_}
 use lib.ListN.{length, drop}

@@ -1,4 +1,4 @@
--- By cases on the check. Assumes nothing.
+-- By cases on the check.
 use mathlib.Core.Path.{refl}
 use borrow.Author.Needs.{needs}
 use Rattle.interrupt.proofs.then.Statement.{statement}

@@ -1,4 +1,4 @@
--- A part of the main list, then the whole handler. Assumes nothing.
+-- A part of the main list, then the whole handler.
 use native.Mathlib.Omega.{arith}
 use lib.ListN.{length-append}
 use denote.Ref.{now}

@@ -1,4 +1,4 @@
--- Each turn counts a case, and no more are missed than counted. Assumes nothing.
+-- Each turn counts a case, and no more are missed than counted.
 use mathlib.Core.Path.{_≡_}
 use Prim.Native.Nat.{_-_, _≤_}
 use lib.ListN.{length}

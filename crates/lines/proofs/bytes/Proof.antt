@@ -1,4 +1,4 @@
--- The numbers read so far are the list's first. Assumes nothing.
+-- The numbers read so far are the list's first.
 use Prim.Native.Nat.{_-_}
 use borrow.Author.Needs.{needs}
 use Rattle.lines.proofs.Lists.{Read, read-more, read-done}

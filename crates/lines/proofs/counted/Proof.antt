@@ -1,4 +1,4 @@
--- The definition's cases, as the tests were met. Assumes nothing.
+-- The definition's cases, as the tests were met.
 use borrow.Author.Needs.{needs}
 use borrow.Author.Tests.{eq-eqb, ne-eqb}
 use Rattle.lines.proofs.counted.Statement.{statement}

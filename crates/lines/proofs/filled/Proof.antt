@@ -1,4 +1,4 @@
--- What was passed has no `-`, and what is left adds to it. Assumes nothing.
+-- What was passed has no `-`, and what is left adds to it.
 use mathlib.Core.Path.{_≡_, ap}
 use Prim.Native.Nat.{_+_, _-_, _≤_}
 use native.Mathlib.Omega.{arith}

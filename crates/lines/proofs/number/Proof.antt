@@ -1,4 +1,4 @@
--- What is left, joined to the number so far, ends as the whole does from 0. Assumes nothing.
+-- What is left, joined to the number so far, ends as the whole does from 0.
 use mathlib.Core.Path.{_≡_}
 use Prim.Native.Nat.{ℕ, _-_, _≤_}
 use native.Mathlib.Numerals.{add-one}

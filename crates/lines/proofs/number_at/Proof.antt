@@ -1,4 +1,4 @@
--- A part's length is the number of digits. Assumes nothing.
+-- A part's length is the number of digits.
 use native.Mathlib.Nat.{add-sub-cancel-left}
 use borrow.Author.Needs.{needs}
 use Rattle.lines.proofs.number_at.Statement.{statement}

@@ -1,4 +1,4 @@
--- What was passed is the same in both. Assumes nothing.
+-- What was passed is the same in both.
 use mathlib.Core.Path.{_≡_, refl, ap}
 use mathlib.Core.List.{List}
 use Prim.Native.Nat.{ℕ, _+_, _-_, _≤_, _<_}

@@ -1,4 +1,4 @@
--- A width that is not 0 is itself. Assumes nothing.
+-- A width that is not 0 is itself.
 use mathlib.Core.Path.{_≡_, refl}
 use Prim.Native.Nat.{ℕ, zero, suc, _≤_, _<_}
 use native.Mathlib.Omega.{arith}

@@ -1,4 +1,4 @@
--- What the masks and the product leave is the bits side by side, at the top: `gather-law`. Assumes nothing.
+-- What the masks and the product leave is the bits side by side, at the top: `gather-law`.
 use Prim.Native.Nat.{ℕ, _*_, _/_, _^_, _≤_}
 use native.Mathlib.Omega.{arith}
 use lib.Bits.{bitAnd, bitOr, and-le-r}

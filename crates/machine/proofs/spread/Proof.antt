@@ -1,4 +1,4 @@
--- What the products and masks leave is the bits apart: `spread-law`. Assumes nothing.
+-- What the products and masks leave is the bits apart: `spread-law`.
 use Prim.Native.Nat.{_*_}
 use native.Mathlib.Omega.{arith}
 use lib.Bits.{bitAnd, and-le-r}

@@ -1,4 +1,4 @@
--- Y and Q are the merged operand, Z and N as `result` has them. Assumes nothing.
+-- Y and Q are the merged operand, Z and N as `result` has them.
 use Rattle.movement.specs.DataMovement.{loadQ}
 use borrow.Author.Needs.{needs}
 use Rattle.movement.proofs.load_q.Statement.{statement}

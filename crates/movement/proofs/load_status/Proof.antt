@@ -1,4 +1,4 @@
--- The register takes what the Y bus shows. Assumes nothing.
+-- The register takes what the Y bus shows.
 use Rattle.movement.specs.DataMovement.{loadStatus}
 use borrow.Author.Needs.{needs}
 use Rattle.movement.proofs.load_status.Statement.{statement}

@@ -1,4 +1,4 @@
--- With all four bytes selected nothing of the register is left. Assumes nothing.
+-- With all four bytes selected nothing of the register is left.
 use mathlib.Core.Path.{sym, ap, _∙_}
 use Prim.Native.Nat.{ℕ}
 use Rattle.bits.specs.Bits.{selected, merged}

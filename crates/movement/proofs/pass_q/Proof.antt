@@ -1,4 +1,4 @@
--- Q over B. Assumes nothing.
+-- Q over B.
 use Rattle.movement.specs.DataMovement.{PASS-Q}
 use borrow.Author.Needs.{needs}
 use Rattle.movement.proofs.pass_q.Statement.{statement}

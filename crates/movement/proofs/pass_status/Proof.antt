@@ -1,4 +1,4 @@
--- The register as it is read, over B. Assumes nothing.
+-- The register as it is read, over B.
 use Rattle.movement.specs.DataMovement.{PASS-STAT}
 use borrow.Author.Needs.{needs}
 use Rattle.movement.proofs.pass_status.Statement.{statement}

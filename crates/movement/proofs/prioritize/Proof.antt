@@ -1,4 +1,4 @@
--- The code on Y and in the position bits. Assumes nothing.
+-- The code on Y and in the position bits.
 use Rattle.movement.specs.Prioritize.{prioritize}
 use borrow.Author.Needs.{needs}
 use Rattle.movement.proofs.prioritize.Statement.{statement}

@@ -1,4 +1,4 @@
--- Copies of the N flag, over B. Assumes nothing.
+-- Copies of the N flag, over B.
 use Rattle.movement.specs.Logical.{SIGN}
 use borrow.Author.Needs.{needs}
 use Rattle.movement.proofs.sign.Statement.{statement}

@@ -1,4 +1,4 @@
--- Copies of the top selected bit above it. Assumes nothing.
+-- Copies of the top selected bit above it.
 use Rattle.movement.specs.DataMovement.{signExtend}
 use borrow.Author.Needs.{needs}
 use Rattle.movement.proofs.sign_extend.Statement.{statement}

@@ -1,4 +1,4 @@
--- Zeros in the unselected bytes. Assumes nothing.
+-- Zeros in the unselected bytes.
 use Rattle.movement.specs.DataMovement.{zeroExtend}
 use borrow.Author.Needs.{needs}
 use Rattle.movement.proofs.zero_extend.Statement.{statement}

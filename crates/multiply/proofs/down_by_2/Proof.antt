@@ -1,4 +1,4 @@
--- At the top of the word two bits down is one shift, and the fill stands above it: `filled`. Assumes nothing.
+-- At the top of the word two bits down is one shift, and the fill stands above it: `filled`.
 use native.Mathlib.Omega.{arith}
 use Rattle.multiply.proofs.Bounds.{filled}
 use borrow.Author.Needs.{needs}

@@ -1,4 +1,4 @@
--- The first partial product, shifted. Assumes nothing.
+-- The first partial product, shifted.
 use Prim.Native.Nat.{_+_, _^_}
 use native.Mathlib.Nat.{zero-mod}
 use native.Mathlib.Omega.{arith}

@@ -1,4 +1,4 @@
--- A sum in which A counts M times, wrapped, cut to the selected bytes. Assumes nothing.
+-- A sum in which A counts M times, wrapped, cut to the selected bytes.
 use Prim.Native.Nat.{_≤_}
 use native.Mathlib.Omega.{arith}
 use Rattle.bits.proofs.Laws.{merged-wrap, zero-wrap}

@@ -1,4 +1,4 @@
--- The row's multiple of A* is `picked`, modulo the extended width. Assumes nothing.
+-- The row's multiple of A* is `picked`, modulo the extended width.
 use native.Mathlib.Omega.{arith}
 use Prim.Native.Nat.{_*_, _≤_}
 use Rattle.multiply.proofs.Rows.{added-le, taken-le, picked}

@@ -1,4 +1,4 @@
--- Y takes n bits of F* above the fill, which is its low two bits: `down-cut`, `fill-cut`. Assumes nothing.
+-- Y takes n bits of F* above the fill, which is its low two bits: `down-cut`, `fill-cut`.
 use native.Mathlib.Omega.{arith}
 use mathlib.Core.Path.{_≡_}
 use Prim.Native.Nat.{_%_, _^_}

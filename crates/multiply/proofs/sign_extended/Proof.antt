@@ -1,4 +1,4 @@
--- The sign counts negative: `signed`. Assumes nothing.
+-- The sign counts negative: `signed`.
 use native.Mathlib.Omega.{arith}
 use Rattle.multiply.proofs.Bounds.{signed}
 use borrow.Author.Needs.{needs}

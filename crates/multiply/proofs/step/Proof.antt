@@ -1,4 +1,4 @@
--- The next partial product, shifted. Assumes nothing.
+-- The next partial product, shifted.
 use native.Mathlib.Omega.{arith}
 use Rattle.multiply.specs.Multiply.{step}
 use borrow.Author.Needs.{needs}

@@ -1,4 +1,4 @@
--- A cut value is below the two extra bits. Assumes nothing.
+-- A cut value is below the two extra bits.
 use native.Mathlib.Omega.{arith}
 use mathlib.Core.Path.{_≡_, _∙_}
 use Prim.Native.Nat.{_+_, _%_, _^_, _<_}

@@ -1,4 +1,4 @@
--- The set of Y alone. Assumes nothing.
+-- The set of Y alone.
 use borrow.Author.Needs.{needs}
 use Rattle.packing.specs.Registers.{destinationOf}
 use Rattle.packing.proofs.destination.Statement.{statement}

@@ -1,4 +1,4 @@
--- Each field is a quotient and a remainder of the number, as the code shifts. Assumes nothing.
+-- Each field is a quotient and a remainder of the number, as the code shifts.
 use Rattle.packing.specs.Packing.{fieldsOf}
 use borrow.Author.Needs.{needs}
 use Rattle.packing.proofs.fields.Statement.{statement}

@@ -1,4 +1,4 @@
--- The first four bytes stand above the last two. Assumes nothing.
+-- The first four bytes stand above the last two.
 use borrow.Author.Needs.{needs}
 use Rattle.packing.proofs.joined.Statement.{statement}
 use Rattle.packing.proofs.joined.Tie as tie

@@ -1,4 +1,4 @@
--- Sources and target together. Assumes nothing.
+-- Sources and target together.
 use borrow.Author.Needs.{needs}
 use Rattle.packing.specs.Registers.{namesOf}
 use Rattle.packing.proofs.names.Statement.{statement}

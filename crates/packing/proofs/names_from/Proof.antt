@@ -1,4 +1,4 @@
--- Three tests, as the code nests them. Assumes nothing.
+-- Three tests, as the code nests them.
 use lib.Dec.{leb}
 use Rattle.packing.proofs.Numbers.{some-three}
 use Rattle.packing.proofs.names_from.Statement.{statement}

@@ -1,4 +1,4 @@
--- A one shifted up stays below 2 ^ 64. Assumes nothing.
+-- A one shifted up stays below 2 ^ 64.
 use mathlib.Core.Path.{ap, _∙_}
 use Prim.Native.Nat.{ℕ, _%_, _^_}
 use native.Mathlib.Nat.{one-mul, mod-eq-of-lt}

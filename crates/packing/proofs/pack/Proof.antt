@@ -1,4 +1,4 @@
--- Each return is one way in which packing ends; at the last the fields are in range. Assumes nothing.
+-- Each return is one way in which packing ends; at the last the fields are in range.
 use mathlib.Core.Path.{sym, ap, _∙_}
 use mathlib.Core.List.{_++_}
 use Prim.Native.Nat.{ℕ}

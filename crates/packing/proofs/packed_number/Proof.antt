@@ -1,4 +1,4 @@
--- Each field is in range, so no product and no sum passes 48 bits. Assumes nothing.
+-- Each field is in range, so no product and no sum passes 48 bits.
 use native.Mathlib.Omega.{arith}
 use borrow.Author.Needs.{needs}
 use Rattle.packing.proofs.packed_number.Statement.{statement}

@@ -1,4 +1,4 @@
--- Six stores, one after another from the start. Assumes nothing.
+-- Six stores, one after another from the start.
 use native.Mathlib.Omega.{arith}
 use mathlib.Core.List.{[], _∷_}
 use lib.ListN.{length-set}

@@ -1,4 +1,4 @@
--- The fields of 0 are all 0. Assumes nothing.
+-- The fields of 0 are all 0.
 use Rattle.packing.specs.Packing.{fieldsOf}
 use borrow.Author.Needs.{needs}
 use Rattle.packing.proofs.refused.Statement.{statement}

@@ -1,4 +1,4 @@
--- Two sets of one together. Assumes nothing.
+-- Two sets of one together.
 use borrow.Author.Needs.{needs}
 use Rattle.packing.specs.Registers.{sourcesOf}
 use Rattle.packing.proofs.sources.Statement.{statement}

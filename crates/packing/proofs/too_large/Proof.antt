@@ -1,4 +1,4 @@
--- The definition's tests, in its order. Assumes nothing.
+-- The definition's tests, in its order.
 use Rattle.packing.specs.Packing.{tooLarge}
 use borrow.Author.Needs.{needs}
 use Rattle.packing.proofs.too_large.Statement.{statement}

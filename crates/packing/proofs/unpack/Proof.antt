@@ -1,4 +1,4 @@
--- Each return is one way in which unpacking ends. Assumes nothing.
+-- Each return is one way in which unpacking ends.
 use mathlib.Core.Path.{sym, ap, _∙_}
 use Prim.Native.Nat.{ℕ}
 use Rattle.chip.specs.declared.Word.{Word}

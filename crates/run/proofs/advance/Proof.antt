@@ -1,4 +1,4 @@
--- One step, counted. Assumes nothing.
+-- One step, counted.
 use Rattle.run.proofs.Laws.{went-one}
 use denote.Ref.{now}
 use borrow.Author.Needs.{needs}

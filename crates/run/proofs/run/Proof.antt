@@ -1,4 +1,4 @@
--- A refusal leaves all as it was; else the span goes over the executions of the run, which it counts. Assumes nothing.
+-- A refusal leaves all as it was; else the span goes over the executions of the run, which it counts.
 use mathlib.Core.Path.{sym, subst, _∙_}
 use native.Mathlib.Omega.{arith}
 use denote.Ref.{now}

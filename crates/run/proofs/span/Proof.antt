@@ -1,4 +1,4 @@
--- What is left, run and counted from here, ends as the whole does from its start (`Running`). The measure is the executions left. Assumes nothing.
+-- What is left, run and counted from here, ends as the whole does from its start (`Running`). The measure is the executions left.
 use mathlib.Core.Path.{sym, subst}
 use Prim.Native.Nat.{_-_}
 use native.Mathlib.Omega.{arith}

@@ -1,4 +1,4 @@
--- The inputs are those of the definition, and the two arms its two ways: Y stored, or not. Assumes nothing.
+-- The inputs are those of the definition, and the two arms its two ways: Y stored, or not.
 use mathlib.Core.Path.{ap, _∙_}
 use native.Mathlib.Omega.{arith}
 use Rattle.machine.specs.Core.{shownBy}

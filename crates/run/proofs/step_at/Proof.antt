@@ -1,4 +1,4 @@
--- The word of the sheet can be run. Assumes nothing.
+-- The word of the sheet can be run.
 use mathlib.Core.Path.{sym, subst}
 use denote.Ref.{now}
 use lib.ListN.{length}

@@ -1,5 +1,4 @@
 -- The loop's invariant: no row of any word holds exactly where no row of the words left, from the next on, holds. The measure is the words left.
--- Assumes nothing.
 use mathlib.Core.Path.{_≡_, refl, sym, _∙_}
 use mathlib.Core.Bool.{true}
 use Prim.Native.Nat.{_-_, _≤_}

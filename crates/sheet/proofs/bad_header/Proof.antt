@@ -1,4 +1,4 @@
--- The definition's three tests. Assumes nothing.
+-- The definition's three tests.
 use borrow.Author.Needs.{needs}
 use Rattle.sheet.proofs.bad_header.Statement.{statement}
 use Rattle.sheet.proofs.bad_header.Tie as tie

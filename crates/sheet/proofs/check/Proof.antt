@@ -1,4 +1,4 @@
--- The parts of the table, one after another. Assumes nothing.
+-- The parts of the table, one after another.
 use mathlib.Core.Path.{sym, ap, _∙_}
 use Prim.Native.Nat.{ℕ}
 use native.Mathlib.Omega.{arith}

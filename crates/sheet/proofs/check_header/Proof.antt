@@ -1,4 +1,4 @@
--- Each return is a row of the table whose earlier rows do not hold. Assumes nothing.
+-- Each return is a row of the table whose earlier rows do not hold.
 use mathlib.Core.Path.{_≡_, sym, _∙_}
 use Prim.Native.Nat.{ℕ, _*_, _≤_}
 use native.Mathlib.Nat.{mul-le-mul}

@@ -1,4 +1,4 @@
--- Each return is a row of the table whose earlier rows do not hold. Assumes nothing.
+-- Each return is a row of the table whose earlier rows do not hold.
 use mathlib.Core.Path.{sym, _∙_}
 use borrow.Author.Tests.{eq-eqb, ne-eqb}
 use borrow.Author.Needs.{needs}

@@ -1,4 +1,4 @@
--- By the two cases of what is given. Assumes nothing.
+-- By the two cases of what is given.
 use borrow.Author.Tests.{lt-ltb, le-ltb}
 use borrow.Author.Needs.{needs}
 use Rattle.sheet.proofs.check_position.Statement.{statement}

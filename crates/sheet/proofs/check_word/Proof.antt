@@ -1,4 +1,4 @@
--- The rows of the word's number. Assumes nothing.
+-- The rows of the word's number.
 use Rattle.sheet.specs.Sheet.{wordRows}
 use borrow.Author.Needs.{needs}
 use Rattle.sheet.proofs.check_word.Statement.{statement}

@@ -1,4 +1,4 @@
--- Where no row holds the table answers Good. Assumes nothing.
+-- Where no row holds the table answers Good.
 use mathlib.Core.Path.{sym, _∙_}
 use denote.Ref.{now}
 use Rattle.reasons.specs.Reasons.{rowsBy}

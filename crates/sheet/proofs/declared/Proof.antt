@@ -1,4 +1,4 @@
--- The header's register count. Assumes nothing.
+-- The header's register count.
 use Rattle.sheet.specs.Sheet.{declaredOf}
 use borrow.Author.Needs.{needs}
 use Rattle.sheet.proofs.declared.Statement.{statement}

@@ -1,4 +1,4 @@
--- As many as there are words. Assumes nothing.
+-- As many as there are words.
 use mathlib.Core.Path.{sym, _∙_}
 use denote.Ref.{now}
 use Rattle.sheet.proofs.Positions.{executions-length}

@@ -1,4 +1,4 @@
--- The part of the sheet that the mark names. Assumes nothing.
+-- The part of the sheet that the mark names.
 use borrow.Author.Needs.{needs}
 use Rattle.sheet.proofs.fetch.Statement.{statement}
 use Rattle.sheet.proofs.fetch.Tie as tie

@@ -1,4 +1,4 @@
--- By the two cases of what is given. Assumes nothing.
+-- By the two cases of what is given.
 use borrow.Author.Needs.{needs}
 use Rattle.sheet.proofs.lends_fewer.Statement.{statement}
 use Rattle.sheet.proofs.lends_fewer.Tie as tie

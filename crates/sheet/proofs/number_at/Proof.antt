@@ -1,4 +1,4 @@
--- The number of the word's six bytes. Assumes nothing.
+-- The number of the word's six bytes.
 use mathlib.Core.Path.{ap, _∙_}
 use native.Mathlib.Omega.{arith}
 use lib.ListN.{length}

@@ -1,4 +1,4 @@
--- The range is six long. Assumes nothing.
+-- The range is six long.
 use mathlib.Core.Path.{ap}
 use Prim.Native.Nat.{ℕ, _+_, _*_}
 use native.Mathlib.Nat.{add-sub-cancel-left}

@@ -1,4 +1,4 @@
--- The three rows' conditions, each denied. Assumes nothing.
+-- The three rows' conditions, each denied.
 use mathlib.Core.Bool.{Bool·not-not, and-assoc, and-true}
 use borrow.Author.Needs.{needs}
 use Rattle.sheet.proofs.sound.Statement.{statement}

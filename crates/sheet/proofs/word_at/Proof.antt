@@ -1,4 +1,4 @@
--- The fields of the word's number. Assumes nothing.
+-- The fields of the word's number.
 use mathlib.Core.Path.{sym, ap, _∙_, subst}
 use Rattle.packing.specs.Packing.{fieldsOf}
 use Rattle.packing.specs.Registers.{Narrow}

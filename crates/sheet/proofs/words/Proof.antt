@@ -1,4 +1,4 @@
--- The header's word count. Assumes nothing.
+-- The header's word count.
 use Rattle.sheet.specs.Sheet.{wordsOf}
 use borrow.Author.Needs.{needs}
 use Rattle.sheet.proofs.words.Statement.{statement}

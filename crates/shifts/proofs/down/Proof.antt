@@ -1,4 +1,4 @@
--- The selected bits downshifted, over the source. Assumes nothing.
+-- The selected bits downshifted, over the source.
 use Rattle.shifts.specs.SingleBit.{down}
 use borrow.Author.Needs.{needs}
 use Rattle.shifts.proofs.down.Statement.{statement}

@@ -1,4 +1,4 @@
--- The fill is the operand's sign bit. Assumes nothing.
+-- The fill is the operand's sign bit.
 use borrow.Author.Needs.{needs}
 use Rattle.shifts.proofs.down_arithmetic_over_q.Statement.{statement}
 use Rattle.shifts.proofs.down_arithmetic_over_q.Tie as tie

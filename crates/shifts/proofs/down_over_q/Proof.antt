@@ -1,4 +1,4 @@
--- Y as without Q; Q downshifted after it. Assumes nothing.
+-- Y as without Q; Q downshifted after it.
 use Rattle.shifts.specs.SingleBit.{down, downQ}
 use borrow.Author.Needs.{needs}
 use Rattle.shifts.proofs.down_over_q.Statement.{statement}

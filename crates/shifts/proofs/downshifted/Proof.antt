@@ -1,4 +1,4 @@
--- The cut word halved, and the fill in its place, which no wrap reaches: `top-wrap`. Assumes nothing.
+-- The cut word halved, and the fill in its place, which no wrap reaches: `top-wrap`.
 use native.Mathlib.Omega.{arith}
 use Rattle.shifts.specs.SingleBit.{downshifted}
 use Rattle.shifts.proofs.Fill.{top-le, top-wrap}

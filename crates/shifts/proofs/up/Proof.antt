@@ -1,4 +1,4 @@
--- The selected bits of the upshifted word are those of the number before it wraps: `merged-wrap`, `zero-wrap`, `bit-wrap`. Assumes nothing.
+-- The selected bits of the upshifted word are those of the number before it wraps: `merged-wrap`, `zero-wrap`, `bit-wrap`.
 use Prim.Native.Nat.{_-_, _≤_, _<_}
 use native.Mathlib.Omega.{arith}
 use Rattle.bits.proofs.Laws.{merged-wrap, zero-wrap, bit-wrap}

@@ -1,4 +1,4 @@
--- Y as without Q, with Q's sign bit shifted in; Q upshifted after it. Assumes nothing.
+-- Y as without Q, with Q's sign bit shifted in; Q upshifted after it.
 use Prim.Native.Nat.{_≤_}
 use Rattle.bits.proofs.Laws.{merged-wrap}
 use Rattle.machine.specs.Inputs.{bitsOf}

@@ -1,4 +1,4 @@
--- A test and a sum, as the definition has them. Assumes nothing.
+-- A test and a sum, as the definition has them.
 use borrow.Author.Tests.{lt-ltb, le-ltb}
 use Rattle.text.specs.Text.{digitOf}
 use borrow.Author.Needs.{needs}

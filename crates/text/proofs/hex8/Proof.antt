@@ -1,4 +1,4 @@
--- Each place is a digit of the definition. Assumes nothing.
+-- Each place is a digit of the definition.
 use borrow.Author.Needs.{needs}
 use Rattle.text.proofs.hex8.Statement.{statement}
 use Rattle.text.proofs.hex8.Tie as tie

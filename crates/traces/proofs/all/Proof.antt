@@ -1,4 +1,4 @@
--- The bytes left fall: an input has at least the four of its length. Assumes nothing.
+-- The bytes left fall: an input has at least the four of its length.
 use mathlib.Core.Path.{_≡_}
 use Prim.Native.Nat.{_-_, _≤_}
 use lib.ListN.{length}

@@ -1,4 +1,4 @@
--- The lines so far stand at the start, and with those left they are all (`Filling`). The measure is the executions left. Assumes nothing.
+-- The lines so far stand at the start, and with those left they are all (`Filling`). The measure is the executions left.
 use mathlib.Core.Path.{sym, subst}
 use Prim.Native.Nat.{_-_}
 use native.Mathlib.Omega.{arith}

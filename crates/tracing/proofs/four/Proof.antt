@@ -1,4 +1,4 @@
--- The four digits look at the low sixteen bits. Assumes nothing.
+-- The four digits look at the low sixteen bits.
 use mathlib.Core.Path.{_∙_}
 use Rattle.tracing.proofs.Lines.{four-digits}
 use borrow.Author.Needs.{needs}

@@ -1,4 +1,4 @@
--- Each place is a digit of its number, or what stands between two. Assumes nothing.
+-- Each place is a digit of its number, or what stands between two.
 use Rattle.tracing.proofs.Lines.{line-is}
 use borrow.Author.Needs.{needs}
 use Rattle.tracing.proofs.line.Statement.{statement}

@@ -1,4 +1,4 @@
--- The loop's invariant: the registers before `k` are loaded. The measure is what is left of the file. Assumes nothing.
+-- The loop's invariant: the registers before `k` are loaded. The measure is what is left of the file.
 use mathlib.Core.Path.{refl}
 use Prim.Native.Nat.{_-_}
 use native.Mathlib.Omega.{arith}

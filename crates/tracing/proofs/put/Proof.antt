@@ -1,4 +1,4 @@
--- What is copied so far stands in its place (`Copying`). The measure is what is left of the line. Assumes nothing.
+-- What is copied so far stands in its place (`Copying`). The measure is what is left of the line.
 use Prim.Native.Nat.{_-_}
 use native.Mathlib.Omega.{arith}
 use lib.ListN.{length}

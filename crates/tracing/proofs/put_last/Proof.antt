@@ -1,4 +1,4 @@
--- The last line has eight bytes. Assumes nothing.
+-- The last line has eight bytes.
 use mathlib.Core.Path.{ap, _∙_}
 use native.Mathlib.Omega.{arith}
 use lib.ListN.{length}

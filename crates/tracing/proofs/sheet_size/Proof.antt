@@ -1,4 +1,4 @@
--- The count has twelve bits, so the size fits. Assumes nothing.
+-- The count has twelve bits, so the size fits.
 use native.Mathlib.Omega.{arith}
 use denote.Ref.{now}
 use Rattle.tracing.proofs.Input.{words-few, size-is}

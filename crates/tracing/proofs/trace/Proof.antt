@@ -1,4 +1,4 @@
--- Refused, or run on as many of 64 registers as are declared. Assumes nothing.
+-- Refused, or run on as many of 64 registers as are declared.
 use mathlib.Core.Path.{refl, sym, _∙_}
 use native.Mathlib.Omega.{arith}
 use denote.Ref.{now}

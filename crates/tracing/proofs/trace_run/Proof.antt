@@ -1,4 +1,4 @@
--- The registers are those of the input, so the lines are those of its run (`text-done`). Assumes nothing.
+-- The registers are those of the input, so the lines are those of its run (`text-done`).
 use mathlib.Core.Path.{_∙_}
 use native.Mathlib.Omega.{arith}
 use denote.Ref.{now}

@@ -1,4 +1,4 @@
--- The step is run, and its line stands in its place. Assumes nothing.
+-- The step is run, and its line stands in its place.
 use native.Mathlib.Omega.{arith}
 use mathlib.Core.Path.{ap, _∙_}
 use lib.ListN.{length}

@@ -1,4 +1,4 @@
--- What is written is no longer than the text. Assumes nothing.
+-- What is written is no longer than the text.
 use mathlib.Core.Path.{sym, _∙_}
 use native.Mathlib.Omega.{arith}
 use lib.ListN.{length-take}

@@ -1,4 +1,4 @@
--- The complements of the carries between nibbles: `borrows-read`. Assumes nothing.
+-- The complements of the carries between nibbles: `borrows-read`.
 use native.Mathlib.Omega.{arith}
 use Prim.Native.Nat.{_/_, _^_}
 use lib.Bits.{bitXor, and-le-r}

@@ -1,4 +1,4 @@
--- A nibble carries where the binary sum does, and where what is left of it does with six more: `carries-read`. Assumes nothing.
+-- A nibble carries where the binary sum does, and where what is left of it does with six more: `carries-read`.
 use mathlib.Core.Path.{ap, _∙_}
 use Prim.Native.Nat.{ℕ, _-_, _/_, _%_, _^_, _<_}
 use native.Mathlib.Nat.{mod-eq-of-lt}

@@ -1,4 +1,4 @@
--- The leaves' sum and carry out, of B and the operand. Assumes nothing.
+-- The leaves' sum and carry out, of B and the operand.
 use mathlib.Core.Path.{_∙_}
 use Rattle.bits.proofs.Laws.{carry-lt}
 use borrow.Author.Needs.{needs}

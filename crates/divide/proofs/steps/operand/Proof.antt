@@ -1,4 +1,4 @@
--- A flag of 0 adds, 1 subtracts. Assumes nothing.
+-- A flag of 0 adds, 1 subtracts.
 use mathlib.Core.Path.{sym}
 use Rattle.bits.proofs.Laws.{choose-zero, choose-one}
 use Rattle.divide.proofs.steps.operand.Statement.{statement}

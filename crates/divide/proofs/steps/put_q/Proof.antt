@@ -1,4 +1,4 @@
--- Below bit 0 stands nothing. Assumes nothing.
+-- Below bit 0 stands nothing.
 use native.Mathlib.Omega.{arith}
 use Rattle.bits.specs.Bits.{putBit}
 use borrow.Author.Needs.{needs}

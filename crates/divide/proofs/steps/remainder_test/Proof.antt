@@ -1,4 +1,4 @@
--- N + S is 0 where both flags are. Assumes nothing.
+-- N + S is 0 where both flags are.
 use mathlib.Core.Path.{_≡_, sym, _∙_}
 use Prim.Native.Nat.{max}
 use native.Mathlib.Omega.{arith}

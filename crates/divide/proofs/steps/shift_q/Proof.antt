@@ -1,4 +1,4 @@
--- Q shifted up on the data word, over Q. Assumes nothing.
+-- Q shifted up on the data word, over Q.
 use Prim.Native.Nat.{_≤_}
 use Rattle.bits.proofs.Laws.{merged-wrap}
 use borrow.Author.Needs.{needs}

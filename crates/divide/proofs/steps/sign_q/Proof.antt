@@ -1,4 +1,4 @@
--- The top selected bit is a bit. Assumes nothing.
+-- The top selected bit is a bit.
 use mathlib.Core.Path.{_∙_}
 use Rattle.bits.proofs.BitByBit.{bit-lt}
 use borrow.Author.Needs.{needs}

@@ -1,4 +1,4 @@
--- The signs at the selected width. Assumes nothing.
+-- The signs at the selected width.
 use native.Mathlib.Omega.{arith}
 use borrow.Author.Needs.{needs}
 use Rattle.divide.proofs.steps.signed_bit.Statement.{statement}

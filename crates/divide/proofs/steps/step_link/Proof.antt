@@ -1,4 +1,4 @@
--- Macro select 0 takes the macro input, 1 the flag. Assumes nothing.
+-- Macro select 0 takes the macro input, 1 the flag.
 use mathlib.Core.Path.{sym}
 use native.Mathlib.Omega.{arith}
 use Rattle.bits.proofs.Laws.{choose-zero, choose-one}

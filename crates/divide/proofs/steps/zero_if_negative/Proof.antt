@@ -1,4 +1,4 @@
--- S is the dividend's sign. Assumes nothing.
+-- S is the dividend's sign.
 use mathlib.Core.Path.{sym, _∙_}
 use Rattle.bits.proofs.Laws.{choose-zero, choose-one}
 use borrow.Author.Needs.{needs}

@@ -1,4 +1,4 @@
--- The extracted bit on Y and in L. Assumes nothing.
+-- The extracted bit on Y and in L.
 use Rattle.fields.specs.BitManipulation.{extractBit}
 use borrow.Author.Needs.{needs}
 use Rattle.fields.proofs.bit.extract.Statement.{statement}

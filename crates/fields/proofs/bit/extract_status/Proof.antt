@@ -1,4 +1,4 @@
--- The bit of the status register as it is read, on Y and in L. Assumes nothing.
+-- The bit of the status register as it is read, on Y and in L.
 use Rattle.fields.specs.BitManipulation.{EXTBIT-STAT}
 use borrow.Author.Needs.{needs}
 use Rattle.fields.proofs.bit.extract_status.Statement.{statement}

@@ -1,4 +1,4 @@
--- The bit's sum with the sixth position bit, which is a flag. Assumes nothing.
+-- The bit's sum with the sixth position bit, which is a flag.
 use borrow.Author.Needs.{needs}
 use Rattle.fields.proofs.bit.extracted.Statement.{statement}
 use Rattle.fields.proofs.bit.extracted.Tie as tie

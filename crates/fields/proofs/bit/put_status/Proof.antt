@@ -1,4 +1,4 @@
--- What is loaded is in range, and Y shows it as it is read. Assumes nothing.
+-- What is loaded is in range, and Y shows it as it is read.
 use Rattle.machine.proofs.Round.{loaded-good}
 use borrow.Author.Needs.{needs}
 use Rattle.fields.proofs.bit.put_status.Statement.{statement}

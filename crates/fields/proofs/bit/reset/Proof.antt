@@ -1,4 +1,4 @@
--- The bit taken out, Z set. Assumes nothing.
+-- The bit taken out, Z set.
 use Rattle.fields.specs.BitManipulation.{putInto}
 use borrow.Author.Needs.{needs}
 use Rattle.fields.proofs.bit.reset.Statement.{statement}

@@ -1,4 +1,4 @@
--- The bit taken out of the register as it is read. Assumes nothing.
+-- The bit taken out of the register as it is read.
 use Rattle.fields.specs.BitManipulation.{putStatus}
 use borrow.Author.Needs.{needs}
 use Rattle.fields.proofs.bit.reset_status.Statement.{statement}

@@ -1,4 +1,4 @@
--- The bit put in, Z reset. Assumes nothing.
+-- The bit put in, Z reset.
 use Rattle.fields.specs.BitManipulation.{putInto}
 use borrow.Author.Needs.{needs}
 use Rattle.fields.proofs.bit.set.Statement.{statement}

@@ -1,4 +1,4 @@
--- The bit put into the register as it is read. Assumes nothing.
+-- The bit put into the register as it is read.
 use Rattle.fields.specs.BitManipulation.{putStatus}
 use borrow.Author.Needs.{needs}
 use Rattle.fields.proofs.bit.set_status.Statement.{statement}

@@ -1,4 +1,4 @@
--- The result in the aligned field, B around it. Assumes nothing.
+-- The result in the aligned field, B around it.
 use borrow.Author.Needs.{needs}
 use Rattle.fields.proofs.logical.aligned.Statement.{statement}
 use Rattle.fields.proofs.logical.aligned.Tie as tie

@@ -1,4 +1,4 @@
--- The mask from the low five position bits on. Assumes nothing.
+-- The mask from the low five position bits on.
 use borrow.Author.Needs.{needs}
 use Rattle.fields.proofs.logical.aligned_field.Statement.{statement}
 use Rattle.fields.proofs.logical.aligned_field.Tie as tie

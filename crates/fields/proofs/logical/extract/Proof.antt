@@ -1,4 +1,4 @@
--- The source in the non-aligned field, zeros around it. Assumes nothing.
+-- The source in the non-aligned field, zeros around it.
 use borrow.Author.Needs.{needs}
 use Rattle.fields.proofs.logical.extract.Statement.{statement}
 use Rattle.fields.proofs.logical.extract.Tie as tie

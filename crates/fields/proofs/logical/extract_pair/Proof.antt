@@ -1,4 +1,4 @@
--- One rotate serves both signs of the position, and the low bits of its low word are its low bits. Assumes nothing.
+-- One rotate serves both signs of the position, and the low bits of its low word are its low bits.
 use mathlib.Core.Path.{ap, ap₂, _∙_}
 use Prim.Native.Nat.{ℕ, _%_, _^_}
 use native.Mathlib.Omega.{arith}

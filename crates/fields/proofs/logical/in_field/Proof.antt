@@ -1,4 +1,4 @@
--- Z of the field alone, N of the whole word. Assumes nothing.
+-- Z of the field alone, N of the whole word.
 use Rattle.fields.specs.Field.{inField}
 use borrow.Author.Needs.{needs}
 use Rattle.fields.proofs.logical.in_field.Statement.{statement}

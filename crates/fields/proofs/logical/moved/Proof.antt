@@ -1,4 +1,4 @@
--- A position below 32 shifts up, one from 32 on rotates down: `displaced-up`, `displaced-down`. Assumes nothing.
+-- A position below 32 shifts up, one from 32 on rotates down: `displaced-up`, `displaced-down`.
 use mathlib.Core.Path.{_≡_, ap, _∙_}
 use Prim.Native.Nat.{ℕ, _-_}
 use native.Mathlib.Omega.{arith}

@@ -1,4 +1,4 @@
--- The field starts at a position below 32, and at bit 0 from 32 on: `displaced-up`, `displaced-down`. Assumes nothing.
+-- The field starts at a position below 32, and at bit 0 from 32 on: `displaced-up`, `displaced-down`.
 use mathlib.Core.Path.{ap, _∙_}
 use Prim.Native.Nat.{ℕ}
 use Rattle.bits.specs.Bits.{fieldMask}

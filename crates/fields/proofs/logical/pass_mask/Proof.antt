@@ -1,4 +1,4 @@
--- The sixth position bit is 0 below 32 and 1 from there on. Assumes nothing.
+-- The sixth position bit is 0 below 32 and 1 from there on.
 use Rattle.bits.proofs.Laws.{choose-zero, choose-one}
 use Rattle.fields.specs.Field.{PASS-MASK}
 use Rattle.fields.proofs.Laws.{sixth-zero, sixth-one}

@@ -1,4 +1,4 @@
--- By 0 nothing moves; else the two parts change places: `pair-law`. Assumes nothing.
+-- By 0 nothing moves; else the two parts change places: `pair-law`.
 use mathlib.Core.Path.{_≡_}
 use Prim.Native.Nat.{_<_, _^_}
 use native.Mathlib.Omega.{arith}

@@ -1,4 +1,4 @@
--- The result in the non-aligned field, B around it. Assumes nothing.
+-- The result in the non-aligned field, B around it.
 use borrow.Author.Needs.{needs}
 use Rattle.fields.proofs.logical.unaligned.Statement.{statement}
 use Rattle.fields.proofs.logical.unaligned.Tie as tie

@@ -1,4 +1,4 @@
--- Each shift by k - 1 and then by 1 is one by k, and the fill less its own shift is what stands above: `down-law`. Assumes nothing.
+-- Each shift by k - 1 and then by 1 is one by k, and the fill less its own shift is what stands above: `down-law`.
 use native.Mathlib.Omega.{arith}
 use Rattle.fields.proofs.Laws.{fill-le, down-law, down-lt}
 use borrow.Author.Needs.{needs}

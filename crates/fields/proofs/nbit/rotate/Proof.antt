@@ -1,4 +1,4 @@
--- The low five position bits are the magnitude of the rotate. Assumes nothing.
+-- The low five position bits are the magnitude of the rotate.
 use Rattle.fields.specs.NBit.{rotate}
 use borrow.Author.Needs.{needs}
 use Rattle.fields.proofs.nbit.rotate.Statement.{statement}

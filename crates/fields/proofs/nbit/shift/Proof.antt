@@ -1,4 +1,4 @@
--- A position below 32 shifts up, one from 32 on down: `displaced-up`, `displaced-down`. Assumes nothing.
+-- A position below 32 shifts up, one from 32 on down: `displaced-up`, `displaced-down`.
 use mathlib.Core.Path.{ap, _∙_}
 use Prim.Native.Nat.{ℕ}
 use Rattle.bits.specs.Bits.{upBy}

@@ -1,4 +1,4 @@
--- N and the given Z put into a copy of the status register. Assumes nothing.
+-- N and the given Z put into a copy of the status register.
 use borrow.Author.Needs.{needs}
 use Rattle.fields.proofs.position.leave.Statement.{statement}
 use Rattle.fields.proofs.position.leave.Tie as tie

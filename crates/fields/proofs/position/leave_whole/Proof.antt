@@ -1,4 +1,4 @@
--- Z of the whole word. Assumes nothing.
+-- Z of the whole word.
 use borrow.Author.Needs.{needs}
 use Rattle.fields.proofs.position.leave_whole.Statement.{statement}
 use Rattle.fields.proofs.position.leave_whole.Tie as tie

@@ -1,4 +1,4 @@
--- Handing back is reading the status (the promise of read). Assumes nothing.
+-- Handing back is reading the status (the promise of read).
 use borrow.Author.Needs.{needs}
 use Rattle.machine.proofs.Core.leave.Statement.{statement}
 use Rattle.machine.proofs.Core.leave.Tie as tie

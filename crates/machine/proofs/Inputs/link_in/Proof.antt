@@ -1,4 +1,4 @@
--- Macro select 0 takes the flag, 1 the macro input. Assumes nothing.
+-- Macro select 0 takes the flag, 1 the macro input.
 use mathlib.Core.Path.{sym}
 use native.Mathlib.Omega.{arith}
 use Rattle.bits.proofs.Laws.{choose-zero, choose-one}

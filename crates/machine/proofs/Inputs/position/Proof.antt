@@ -1,4 +1,4 @@
--- I8 is low below byte code 2. Assumes nothing.
+-- I8 is low below byte code 2.
 use mathlib.Core.Path.{_≡_, sym}
 use Prim.Native.Nat.{_/_}
 use native.Mathlib.Omega.{arith}

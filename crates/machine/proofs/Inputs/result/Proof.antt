@@ -1,4 +1,4 @@
--- Y, Z and N as the leaves give them. Assumes nothing.
+-- Y, Z and N as the leaves give them.
 use borrow.Author.Needs.{needs}
 use Rattle.machine.proofs.Inputs.result.Statement.{statement}
 use Rattle.machine.proofs.Inputs.result.Tie as tie

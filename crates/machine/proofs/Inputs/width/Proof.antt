@@ -1,4 +1,4 @@
--- I7 is low at an even byte code. Assumes nothing.
+-- I7 is low at an even byte code.
 use mathlib.Core.Path.{_≡_, sym, ap, _∙_}
 use Prim.Native.Nat.{_%_}
 use native.Mathlib.Omega.{arith}

@@ -1,4 +1,4 @@
--- Taking in is loading the status (the promise of load). Assumes nothing.
+-- Taking in is loading the status (the promise of load).
 use borrow.Author.Needs.{needs}
 use Rattle.machine.proofs.Machine.enter.Statement.{statement}
 use Rattle.machine.proofs.Machine.enter.Tie as tie

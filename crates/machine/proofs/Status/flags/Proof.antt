@@ -1,4 +1,4 @@
--- Four flags, each 0 or 1: sixteen cases, computed. Assumes nothing.
+-- Four flags, each 0 or 1: sixteen cases, computed.
 use mathlib.Core.Path.{_≡_, refl}
 use Prim.Native.Nat.{ℕ, _+_, _*_, _^_, _<_, max}
 use lib.Bits.{bitOr, bitXor}

@@ -1,4 +1,4 @@
--- The quotients and remainders are the definition's. Assumes nothing.
+-- The quotients and remainders are the definition's.
 use Rattle.machine.specs.Status.{loaded}
 use borrow.Author.Needs.{needs}
 use Rattle.machine.proofs.Status.load.Statement.{statement}

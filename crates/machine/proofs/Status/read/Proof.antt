@@ -1,4 +1,4 @@
--- Each part fits below the next one's weight, and the sum is the definition's. Assumes nothing.
+-- Each part fits below the next one's weight, and the sum is the definition's.
 use mathlib.Core.Path.{_≡_}
 use Prim.Native.Nat.{ℕ, _+_}
 use native.Mathlib.Omega.{arith}
