@@ -1,30 +1,17 @@
--- What the C interface answers, in numbers: document 01's number of each reason and its place, and what else an answer holds.
+-- What the C interface answers: the numbers of the reason and its place, and what else an answer holds.
 use mathlib.Core.List.{List}
 use Prim.Native.Nat.{ℕ}
-use Rattle.reasons.specs.Reasons.{numberOf}
-use Rattle.reasons.specs.declared.Reason.{Reason}
-use Rattle.reasons.specs.declared.Reason.the-variants.{Done}
-use Rattle.reasons.specs.declared.Check.{Check}
-use Rattle.reasons.specs.declared.Check.the-variants.{Good, Bad}
+use Rattle.reasons.specs.Reasons.{outcomeOf, checkNumbers}
+use Rattle.reasons.specs.declared.Outcome.{Outcome}
 use Rattle.chip.specs.declared.SingleAnswer.{SingleAnswer}
 use Rattle.packing.specs.declared.Unpacked.{Unpacked as UnpackedWord}
 use Rattle.packing.specs.Packing.{Packed}
 use Rattle.run.specs.Run.{Ended}
 use Rattle.interrupt.specs.Interrupt.{Left}
-use Rattle.am29332.specs.declared.Outcome.{Outcome}
 use Rattle.am29332.specs.declared.Answer.{Answer}
 use Rattle.am29332.specs.declared.Unpacked.{Unpacked}
 use Rattle.am29332.specs.declared.Ran.{Ran}
 use Rattle.am29332.specs.declared.Interrupted.{Interrupted}
-
--- a reason and its place
-abbrev pub outcomeOf : Reason → ℕ → Outcome
-outcomeOf reason place = record { reason = numberOf reason; place = place }
-
--- a check: 0 done at place 0, or the reason and the place of a refusal
-abbrev pub checkNumbers : Check → Outcome
-checkNumbers Good = outcomeOf Done 0
-checkNumbers (Bad reason place) = outcomeOf reason place
 
 -- a single word's answer: Y, parity, Q and status besides
 abbrev pub singleNumbers : SingleAnswer → Answer

@@ -3,9 +3,9 @@
 use chip::SingleWord;
 use chip::Word;
 use machine::Machine;
-use reasons::Check;
-use reasons::Reason;
+use reasons::Outcome;
 ghost use mathlib.Core.Path.{_≡_};
+ghost use Rattle.reasons.specs.Reasons.{checkNumbers};
 ghost use Rattle.machine.specs.Core.{freshOf};
 ghost use Rattle.chip.specs.Single.{singleOf};
 ghost use Rattle.packing.specs.Packing.{packOf, unpackOf};
@@ -14,14 +14,7 @@ ghost use Rattle.sheet.specs.declared.Given.the-variants.{Absent};
 ghost use Rattle.handler.specs.Form.{handlerOf};
 ghost use Rattle.run.specs.Run.{runOf};
 ghost use Rattle.interrupt.specs.Interrupt.{interruptedOf};
-ghost use Rattle.am29332.specs.Numbers.{outcomeOf, checkNumbers, singleNumbers, packNumbers, unpackNumbers, runNumbers, interruptedNumbers, leaves};
-
-// Document 01's number of the reason, and the place: the words run where the reason is 0 and a sheet ran, else where the fault is.
-#[repr(C)]
-pub struct Outcome {
-    pub reason: u32,
-    pub place: u64,
-}
+ghost use Rattle.am29332.specs.Numbers.{singleNumbers, packNumbers, unpackNumbers, runNumbers, interruptedNumbers, leaves};
 
 // What a single word answers. The parity has a bit for each byte of Y, the highest byte's in bit 3.
 #[repr(C)]
@@ -55,26 +48,6 @@ pub struct Interrupted {
     pub mark: u32,
 }
 
-// A reason and its place as numbers.
-fn numbered(reason: Reason, place: usize) -> Outcome
-    ensures { λ r. ⌜ r ≡ outcomeOf reason place ⌝ }
-{
-    Outcome {
-        reason: reasons::number(reason),
-        place: place as u64,
-    }
-}
-
-// What a check answers, as numbers: 0 and 0 where there is nothing to refuse.
-fn numbered_check(check: Check) -> Outcome
-    ensures { λ r. ⌜ r ≡ checkNumbers check ⌝ }
-{
-    match check {
-        Check::Good => numbered(Reason::Done, 0),
-        Check::Bad { reason, place } => numbered(reason, place),
-    }
-}
-
 // A fresh machine.
 #[no_mangle]
 pub extern "C" fn am29332_fresh() -> Machine
@@ -91,7 +64,7 @@ pub extern "C" fn am29332_single_word(inputs: SingleWord) -> Answer
     let answer = chip::single_word(inputs);
     let reason = answer.reason;
     Answer {
-        outcome: numbered(reason, answer.place),
+        outcome: reasons::numbered(reason, answer.place),
         y: answer.y,
         parity: answer.parity,
         q: answer.q,
@@ -104,7 +77,7 @@ pub extern "C" fn am29332_single_word(inputs: SingleWord) -> Answer
 pub extern "C" fn am29332_pack(word: Word, bytes: &mut [u8]) -> Outcome
     ensures { λ r. ⌜ leaves r (now (bytes .exit)) ≡ packNumbers (packOf word (now (bytes .entry))) ⌝ }
 {
-    numbered_check(packing::pack(word, bytes))
+    reasons::numbered_check(packing::pack(word, bytes))
 }
 
 // The word in the first six bytes.
@@ -116,7 +89,7 @@ pub extern "C" fn am29332_unpack(bytes: &[u8]) -> Unpacked
     let check = answer.check;
     let word = answer.word;
     Unpacked {
-        outcome: numbered_check(check),
+        outcome: reasons::numbered_check(check),
         word,
     }
 }
@@ -126,7 +99,7 @@ pub extern "C" fn am29332_unpack(bytes: &[u8]) -> Unpacked
 pub extern "C" fn am29332_check_sheet(sheet: &[u8]) -> Outcome
     ensures { λ r. ⌜ r ≡ checkNumbers (checkOf (now (sheet .entry)) Absent Absent) ⌝ }
 {
-    numbered_check(sheet::check_sheet(sheet))
+    reasons::numbered_check(sheet::check_sheet(sheet))
 }
 
 // A sheet handed in as a handler, on its own.
@@ -134,7 +107,7 @@ pub extern "C" fn am29332_check_sheet(sheet: &[u8]) -> Outcome
 pub extern "C" fn am29332_check_handler(sheet: &[u8]) -> Outcome
     ensures { λ r. ⌜ r ≡ checkNumbers (handlerOf (now (sheet .entry))) ⌝ }
 {
-    numbered_check(handler::check_handler(sheet))
+    reasons::numbered_check(handler::check_handler(sheet))
 }
 
 // A sheet from word `start` on, at most `allowance` words.
@@ -152,7 +125,7 @@ pub extern "C" fn am29332_run(
     let reason = answer.reason;
     let after = answer.machine;
     Ran {
-        outcome: numbered(reason, answer.place),
+        outcome: reasons::numbered(reason, answer.place),
         machine: after,
     }
 }
@@ -173,7 +146,7 @@ pub extern "C" fn am29332_interrupted_run<'a>(
     let reason = answer.reason;
     let after = answer.machine;
     Interrupted {
-        outcome: numbered(reason, answer.place),
+        outcome: reasons::numbered(reason, answer.place),
         machine: after,
         mark: answer.mark,
     }

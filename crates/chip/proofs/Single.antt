@@ -4,14 +4,15 @@ use mathlib.Core.List.{[], _∷_}
 use mathlib.Core.Bool.{Bool, true, false}
 use Rattle.machine.specs.Core.{shownBy}
 use Rattle.reasons.specs.declared.Reason.the-variants.{Opcode as NoOpcode, Inputs as BadInputs}
-use Rattle.reasons.specs.Reasons.{_gives_at_, firstOf}
+use Rattle.reasons.specs.Reasons.{_gives_at_, firstOf, outcomeOf, checkNumbers}
 use Rattle.chip.specs.declared.SingleWord.{SingleWord}
 use Rattle.chip.specs.declared.SingleAnswer.{SingleAnswer}
 use Rattle.chip.specs.declared.Operation.{Operation}
 use Rattle.chip.specs.declared.Decoded.the-variants.{Known, Opcode}
 use Rattle.chip.specs.Glossary.{Page, pageOf, performOf}
+use Rattle.chip.specs.Glossary.Page.{page, no-page}
 use Rattle.chip.specs.Operations.{decodedOf}
-use Rattle.chip.specs.Single.{noPage, lacksPage, outOfRange, singleInputs, performed, refusedAs, unless, singleOf}
+use Rattle.chip.specs.Single.{noPage, lacksPage, outOfRange, singleInputs, performed, refusedAs, unless, singleOf, singleOutcome}
 use Rattle.chip.proofs.Pages.{pageFor, page-decoded}
 
 module _ (s : SingleWord) where
@@ -44,3 +45,14 @@ module _ (s : SingleWord) where
   -- two answers that meet the promise are one
   pub one-answer : (r q : SingleAnswer) → r ≡ singleOf s → q ≡ singleOf s → r ≡ q
   one-answer r q e f = e ∙ sym f
+
+  -- the answer's reason and place are the numbers of the table's first row that holds
+  numbers-by : (p : Page) (t : Bool) → outcomeOf (by-rows p t .reason) (by-rows p t .place) ≡ checkNumbers (firstOf ((noPage p gives NoOpcode at 0) ∷ (t gives BadInputs at 0) ∷ []))
+  unfolding by-rows
+  numbers-by (page f) true = refl
+  numbers-by (page f) false = refl
+  numbers-by no-page t = refl
+
+  pub in-numbers : (r : SingleAnswer) → r ≡ singleOf s → (r ≡ singleOf s) × (outcomeOf (r .reason) (r .place) ≡ singleOutcome s)
+  unfolding tested lacksPage
+  in-numbers r e = (e, ap (λ (a : SingleAnswer). outcomeOf (a .reason) (a .place)) (e ∙ sym from-rows) ∙ numbers-by (pageOf (s .opcode)) tested)

@@ -13,7 +13,8 @@ use Rattle.reasons.specs.declared.Reason.{Reason}
 use Rattle.reasons.specs.declared.Reason.the-variants.{Done, Opcode, Inputs as InputsReason}
 use Rattle.reasons.specs.declared.Check.{Check}
 use Rattle.reasons.specs.declared.Check.the-variants.{Good, Bad}
-use Rattle.reasons.specs.Reasons.{Row, _gives_at_, firstOf}
+use Rattle.reasons.specs.declared.Outcome.{Outcome}
+use Rattle.reasons.specs.Reasons.{Row, _gives_at_, firstOf, outcomeOf, checkNumbers}
 use Rattle.chip.specs.declared.SingleWord.{SingleWord}
 use Rattle.chip.specs.declared.SingleAnswer.{SingleAnswer}
 use Rattle.chip.specs.Glossary.{Page, pageOf, performOf}
@@ -72,3 +73,7 @@ unless (Bad r p) s = refusedAs r s
 
 unfoldable pub singleOf : SingleWord → SingleAnswer
 singleOf s = unless (firstOf (singleRows s)) s
+
+-- its reason and place in numbers: those of the table's first row that holds, or 0 and 0
+abbrev pub singleOutcome : SingleWord → Outcome
+singleOutcome s = checkNumbers (firstOf (singleRows s))

@@ -5,13 +5,14 @@ use machine::Outputs;
 use reasons::Reason;
 ghost use mathlib.Core.Path.{_≡_};
 ghost use lib.ListN.{getD};
+ghost use Rattle.reasons.specs.Reasons.{outcomeOf};
 ghost use Rattle.machine.specs.Inputs.{Sound};
 ghost use Rattle.machine.specs.Core.{shownBy};
 ghost use Rattle.arithmetic.specs.Arithmetic.{SUBRC};
 ghost use Rattle.chip.specs.Operations.{decodedOf, basics, meaningOf};
 ghost use Rattle.chip.specs.declared.Decoded.the-variants.{Known};
 ghost use Rattle.chip.specs.Glossary.{performOf};
-ghost use Rattle.chip.specs.Single.{lacksPage, outOfRange, refusedAs, singleInputs, performed, singleOf};
+ghost use Rattle.chip.specs.Single.{lacksPage, outOfRange, refusedAs, singleInputs, performed, singleOf, singleOutcome};
 
 // The fields of one word of a sheet.
 #[repr(C)]
@@ -268,6 +269,7 @@ fn admit(operation: Operation, s: SingleWord) -> SingleAnswer
 // The single word, with any values: refused with its reason, or Y, parity, Q and status.
 pub fn single_word(s: SingleWord) -> SingleAnswer
     ensures { λ r. ⌜ r ≡ singleOf s ⌝ }
+    ensures numbers { λ r. ⌜ outcomeOf (r .reason) (r .place) ≡ singleOutcome s ⌝ }
 {
     match decode(s.opcode) {
         Decoded::Opcode => refuse(s, Reason::Opcode),

@@ -6,7 +6,8 @@ use Prim.Native.Nat.{ℕ, _≤_, _<_}
 use borrow.Author.Tests.{eq-eqb, ne-eqb, lt-ltb, le-ltb}
 use lib.ListN.{length}
 use Rattle.chip.specs.declared.Word.{Word}
-use Rattle.reasons.specs.Reasons.{firstOf}
+use Rattle.reasons.specs.Reasons.{firstOf, checkNumbers}
+use Rattle.packing.specs.declared.Unpacked.{Unpacked}
 use Rattle.reasons.specs.declared.Reason.the-variants.{Opcode, Inputs, Spare, Room}
 use Rattle.reasons.specs.declared.Check.{Check}
 use Rattle.reasons.specs.declared.Check.the-variants.{Good, Bad}
@@ -38,6 +39,10 @@ module _ (w : Word) (d : List ℕ) where
       go : (c : Check) → packedBy c w d .check ≡ c
       go Good = refl
       go (Bad r p) = refl
+
+  -- and so are its numbers
+  pub pack-numbers : (r : Check) (b : List ℕ) → ended r b ≡ packOf w d → (ended r b ≡ packOf w d) × (checkNumbers r ≡ checkNumbers (firstOf (packRows w (length d))))
+  pack-numbers r b e = (e, ap checkNumbers (ap (λ (p : Packed). p .check) e ∙ pack-check))
 
   -- no second answer and buffer meet the promise of `pack`
   pub pack-only : (r r′ : Check) (b b′ : List ℕ) → ended r b ≡ packOf w d → ended r′ b′ ≡ packOf w d → (r ≡ r′) × (b ≡ b′)
@@ -71,3 +76,11 @@ module _ (s : List ℕ) where
       go : (c : Check) → unpackedBy c (fieldsOf (number6 s)) .check ≡ c
       go Good = refl
       go (Bad r p) = refl
+
+  -- and so are its numbers
+  pub unpack-numbers : (r : Unpacked) → r ≡ unpackOf s → (r ≡ unpackOf s) × (checkNumbers (r .check) ≡ checkNumbers (firstOf (unpackRows s)))
+  unpack-numbers r e = (e, ap checkNumbers (ap (λ (u : Unpacked). u .check) e ∙ unpack-check))
+
+  -- no second answer meets the promise of `unpack`
+  pub unpack-only : (r r′ : Unpacked) → r ≡ unpackOf s → r′ ≡ unpackOf s → r ≡ r′
+  unpack-only r r′ e e′ = e ∙ sym e′

@@ -7,7 +7,8 @@ ghost use mathlib.Core.List.{_∷_, _++_};
 ghost use Prim.Native.Nat.{_+_, _*_, _%_, _^_, _<_, _≤_};
 ghost use lib.ListN.{length, drop};
 ghost use lib.Dec.{leb};
-ghost use Rattle.packing.specs.Packing.{number6, fieldsOf, packedNumber, bytes6, some, registerFields, tooLarge, InRange, ended, packOf, unpackOf, unpackedBy, blank};
+ghost use Rattle.reasons.specs.Reasons.{firstOf, checkNumbers};
+ghost use Rattle.packing.specs.Packing.{number6, fieldsOf, packedNumber, bytes6, some, registerFields, tooLarge, InRange, packRows, ended, packOf, unpackRows, unpackOf, unpackedBy, blank};
 ghost use Rattle.packing.specs.Registers.{only, sourcesOf, destinationOf, namesOf, Narrow};
 
 // What unpacking answers: the word where the check is good, else all fields 0.
@@ -162,6 +163,7 @@ pub fn names(w: Word) -> u64
 // Packing: the word into the first six bytes of `d`. Where it is refused `d` stays.
 pub fn pack(w: Word, d: &mut [u8]) -> Check
     ensures { λ r. ⌜ ended r (now (d .exit)) ≡ packOf w (now (d .entry)) ⌝ }
+    ensures numbers { λ r. ⌜ checkNumbers r ≡ checkNumbers (firstOf (packRows w (length (now (d .entry))))) ⌝ }
 {
     if chip::lacks_page(w.opcode) {
         return Check::Bad {
@@ -198,6 +200,7 @@ fn refused(reason: Reason) -> Unpacked
 // Unpacking: the word in the first six bytes of `s`.
 pub fn unpack(s: &[u8]) -> Unpacked
     ensures { λ r. ⌜ r ≡ unpackOf (now (s .entry)) ⌝ }
+    ensures numbers { λ r. ⌜ checkNumbers (r .check) ≡ checkNumbers (firstOf (unpackRows (now (s .entry)))) ⌝ }
 {
     if s.len() < 6 {
         return refused(Reason::Room);

@@ -6,6 +6,7 @@ use Rattle.reasons.specs.declared.Reason.{Reason}
 use Rattle.reasons.specs.declared.Reason.the-variants.{Done, Opcode, Inputs, Short, Version, Header, Length, File, Spare, Register, Start, Form, Overlap, Schedule, Room}
 use Rattle.reasons.specs.declared.Check.{Check}
 use Rattle.reasons.specs.declared.Check.the-variants.{Good, Bad}
+use Rattle.reasons.specs.declared.Outcome.{Outcome}
 
 abbrev pub numberOf : Reason → ℕ
 numberOf Done = 0
@@ -23,6 +24,15 @@ numberOf Form = 11
 numberOf Overlap = 12
 numberOf Schedule = 13
 numberOf Room = 14
+
+-- an answer in numbers: the reason's number, and the place
+abbrev pub outcomeOf : Reason → ℕ → Outcome
+outcomeOf reason place = record { reason = numberOf reason; place = place }
+
+-- a check in numbers: 0 done at place 0, or the number and the place of a refusal
+abbrev pub checkNumbers : Check → Outcome
+checkNumbers Good = outcomeOf Done 0
+checkNumbers (Bad reason place) = outcomeOf reason place
 
 -- a row of a table of reasons: its condition, and the reason and place that are given where it holds and no earlier one does
 pub record Row : Type 0 where

@@ -1,6 +1,6 @@
 // The reasons that document 01 gives, and what a check answers.
 ghost use mathlib.Core.Path.{_≡_};
-ghost use Rattle.reasons.specs.Reasons.{numberOf};
+ghost use Rattle.reasons.specs.Reasons.{numberOf, outcomeOf, checkNumbers};
 
 pub enum Reason {
     Done,
@@ -26,6 +26,13 @@ pub enum Check {
     Bad { reason: Reason, place: usize },
 }
 
+// An answer in numbers: the paper's number of the reason, and the place, which is the number of words run where the reason is 0 and a sheet ran.
+#[repr(C)]
+pub struct Outcome {
+    pub reason: u32,
+    pub place: u64,
+}
+
 // The paper's number of a reason.
 pub fn number(r: Reason) -> u32
     ensures { λ k. ⌜ k ≡ numberOf r ⌝ }
@@ -46,5 +53,25 @@ pub fn number(r: Reason) -> u32
         Reason::Overlap => 12,
         Reason::Schedule => 13,
         Reason::Room => 14,
+    }
+}
+
+// A reason and its place in numbers.
+pub fn numbered(reason: Reason, place: usize) -> Outcome
+    ensures { λ r. ⌜ r ≡ outcomeOf reason place ⌝ }
+{
+    Outcome {
+        reason: number(reason),
+        place: place as u64,
+    }
+}
+
+// What a check answers, in numbers: 0 and 0 where there is nothing to refuse.
+pub fn numbered_check(check: Check) -> Outcome
+    ensures { λ r. ⌜ r ≡ checkNumbers check ⌝ }
+{
+    match check {
+        Check::Good => numbered(Reason::Done, 0),
+        Check::Bad { reason, place } => numbered(reason, place),
     }
 }

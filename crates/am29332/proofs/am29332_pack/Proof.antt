@@ -15,7 +15,7 @@ same-length : tie.Need-same-length
 same-length c = search needs
 
 returns : tie.Need-returns
-returns c = rw (c .numbered-check .ensures) (ap packNumbers (c .before .before .before .pack .ensures))
+returns c = rw (c .numbered-check .ensures) (ap packNumbers (c .before .before .before .pack .ensures .0))
 
 pub am29332-pack-spec : {M : Type 1} → statement M
 am29332-pack-spec = tie.close (tie.spec pack-requires numbered-check-requires same-length returns)

@@ -10,7 +10,7 @@ numbered-requires : tie.Need-numbered-requires
 numbered-requires c κs = search needs
 
 returns : tie.Need-returns
-returns c = rw (c .numbered .ensures, c .before .single-word .ensures)
+returns c = rw (c .numbered .ensures, c .before .single-word .ensures .0)
 
 pub am29332-single-word-spec : {M : Type 1} → statement M
 am29332-single-word-spec = tie.close (tie.spec single-word-requires numbered-requires returns)

@@ -10,7 +10,7 @@ numbered-check-requires : tie.Need-numbered-check-requires
 numbered-check-requires c κs = search needs
 
 returns : tie.Need-returns
-returns c = rw (c .numbered-check .ensures, c .before .before .unpack .ensures)
+returns c = rw (c .numbered-check .ensures, c .before .before .unpack .ensures .0)
 
 pub am29332-unpack-spec : {M : Type 1} → statement M
 am29332-unpack-spec = tie.close (tie.spec unpack-requires numbered-check-requires returns)

@@ -7,7 +7,7 @@ use denote.Ref.{now}
 use Rattle.reasons.specs.declared.Check.the-variants.{Good}
 use Rattle.packing.specs.Packing.{ended, bytes6}
 use Rattle.packing.proofs.Numbers.{in-range}
-use Rattle.packing.proofs.Ends.{pack-opcode, pack-inputs, pack-room, pack-done}
+use Rattle.packing.proofs.Ends.{pack-opcode, pack-inputs, pack-room, pack-done, pack-numbers}
 use borrow.Author.Needs.{needs}
 use Rattle.packing.proofs.pack.Statement.{statement}
 use Rattle.packing.proofs.pack.Tie as tie
@@ -18,7 +18,7 @@ lacks-page-requires c κs = search needs
 returns : tie.Need-returns
 returns c =
     let a = c .before .before .before .args in
-    pack-opcode (a .w) (now (a .d)) (sym (c .before .lacks-page .ensures) ∙ c .if1 .taken)
+    pack-numbers (a .w) (now (a .d)) _ _ (pack-opcode (a .w) (now (a .d)) (sym (c .before .lacks-page .ensures) ∙ c .if1 .taken))
 
 too-large-requires : tie.Need-too-large-requires
 too-large-requires c κs = search needs
@@ -26,14 +26,14 @@ too-large-requires c κs = search needs
 returns-2 : tie.Need-returns-2
 returns-2 c =
     let a = c .before .before .before .before .before .args in
-    pack-inputs (a .w) (now (a .d)) (sym (c .before .before .before .lacks-page .ensures) ∙ c .before .before .if1 .left)
-    (sym (c .before .too-large .ensures) ∙ c .if2 .taken)
+    pack-numbers (a .w) (now (a .d)) _ _ (pack-inputs (a .w) (now (a .d)) (sym (c .before .before .before .lacks-page .ensures) ∙ c .before .before .if1 .left)
+    (sym (c .before .too-large .ensures) ∙ c .if2 .taken))
 
 returns-3 : tie.Need-returns-3
 returns-3 c =
     let a = c .before .before .before .before .before .before .args in
-    pack-room (a .w) (now (a .d)) (sym (c .before .before .before .before .lacks-page .ensures) ∙ c .before .before .before .if1 .left)
-    (sym (c .before .before .too-large .ensures) ∙ c .before .if2 .left) (c .if3 .taken)
+    pack-numbers (a .w) (now (a .d)) _ _ (pack-room (a .w) (now (a .d)) (sym (c .before .before .before .before .lacks-page .ensures) ∙ c .before .before .before .if1 .left)
+    (sym (c .before .before .too-large .ensures) ∙ c .before .if2 .left) (c .if3 .taken))
 
 packed-number-requires : tie.Need-packed-number-requires
 packed-number-requires c κs =
@@ -50,10 +50,10 @@ same-length c = search needs
 returns-4 : tie.Need-returns-4
 returns-4 c =
     let a = c .before .before .before .before .before .before .before .before .before .before .before .args in
-    ap (ended Good) (c .before .before .put-number .ensures ∙ ap (λ (v : ℕ). bytes6 v ++ drop 6 (now (a .d))) (c .before .before .before .before .packed-number .ensures))
+    pack-numbers (a .w) (now (a .d)) _ _ (ap (ended Good) (c .before .before .put-number .ensures ∙ ap (λ (v : ℕ). bytes6 v ++ drop 6 (now (a .d))) (c .before .before .before .before .packed-number .ensures))
     ∙ pack-done (a .w) (now (a .d)) (sym (c .before .before .before .before .before .before .before .before .before .lacks-page .ensures) ∙ c .before .before .before .before .before .before .before .before .if1 .left)
     (sym (c .before .before .before .before .before .before .before .too-large .ensures) ∙ c .before .before .before .before .before .before .if2 .left)
-    (c .before .before .before .before .before .if3 .left)
+    (c .before .before .before .before .before .if3 .left))
 
 pub pack-spec : {M : Type 1} → statement M
 pack-spec =

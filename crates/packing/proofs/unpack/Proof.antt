@@ -5,7 +5,7 @@ use Rattle.chip.specs.declared.Word.{Word}
 use Rattle.reasons.specs.declared.Check.the-variants.{Good}
 use Rattle.chip.specs.Single.{lacksPage}
 use Rattle.packing.specs.Packing.{fieldsOf, spareOf, unpackedBy}
-use Rattle.packing.proofs.Ends.{unpack-room, unpack-spare, unpack-opcode, unpack-done}
+use Rattle.packing.proofs.Ends.{unpack-room, unpack-spare, unpack-opcode, unpack-done, unpack-numbers}
 use borrow.Author.Needs.{needs}
 use Rattle.packing.proofs.unpack.Statement.{statement}
 use Rattle.packing.proofs.unpack.Tie as tie
@@ -14,7 +14,7 @@ refused-requires : tie.Need-refused-requires
 refused-requires c κs = search needs
 
 returns : tie.Need-returns
-returns c = c .refused .ensures ∙ unpack-room _ (c .before .if1 .taken)
+returns c = unpack-numbers _ _ (c .refused .ensures ∙ unpack-room _ (c .before .if1 .taken))
 
 word-number-requires : tie.Need-word-number-requires
 word-number-requires c κs = search needs
@@ -25,8 +25,8 @@ refused-requires-2 c κs = search needs
 returns-2 : tie.Need-returns-2
 returns-2 c =
     let n = c .before .before .word-number .ensures in
-    c .refused2 .ensures
-    ∙ unpack-spare _ (c .before .before .before .if1 .left) (λ z. c .before .if2 .taken (ap (λ (x : ℕ). spareOf x) n ∙ z))
+    unpack-numbers _ _ (c .refused2 .ensures
+    ∙ unpack-spare _ (c .before .before .before .if1 .left) (λ z. c .before .if2 .taken (ap (λ (x : ℕ). spareOf x) n ∙ z)))
 
 fields-requires : tie.Need-fields-requires
 fields-requires c κs = search needs
@@ -41,19 +41,19 @@ returns-3 : tie.Need-returns-3
 returns-3 c =
     let n = c .before .before .before .before .before .word-number .ensures in
     let f = c .before .before .before .fields .ensures ∙ ap fieldsOf n in
-    c .refused3 .ensures
+    unpack-numbers _ _ (c .refused3 .ensures
     ∙ unpack-opcode _ (c .before .before .before .before .before .before .if1 .left)
     (ap (λ (x : ℕ). spareOf x) (sym n) ∙ c .before .before .before .before .if2 .left)
-    (ap (λ (w : Word). lacksPage (w .opcode)) (sym f) ∙ sym (c .before .before .lacks-page .ensures) ∙ c .before .if3 .taken)
+    (ap (λ (w : Word). lacksPage (w .opcode)) (sym f) ∙ sym (c .before .before .lacks-page .ensures) ∙ c .before .if3 .taken))
 
 returns-4 : tie.Need-returns-4
 returns-4 c =
     let n = c .before .before .before .before .word-number .ensures in
     let f = c .before .before .fields .ensures ∙ ap fieldsOf n in
-    ap (λ (w : Word). unpackedBy Good w) f
+    unpack-numbers _ _ (ap (λ (w : Word). unpackedBy Good w) f
     ∙ unpack-done _ (c .before .before .before .before .before .if1 .left)
     (ap (λ (x : ℕ). spareOf x) (sym n) ∙ c .before .before .before .if2 .left)
-    (ap (λ (w : Word). lacksPage (w .opcode)) (sym f) ∙ sym (c .before .lacks-page .ensures) ∙ c .if3 .left)
+    (ap (λ (w : Word). lacksPage (w .opcode)) (sym f) ∙ sym (c .before .lacks-page .ensures) ∙ c .if3 .left))
 
 pub unpack-spec : {M : Type 1} → statement M
 unpack-spec =

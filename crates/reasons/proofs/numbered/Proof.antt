@@ -1,7 +1,7 @@
 -- The number is document 01's.
 use borrow.Author.Needs.{needs}
-use Rattle.am29332.proofs.numbered.Statement.{statement}
-use Rattle.am29332.proofs.numbered.Tie as tie
+use Rattle.reasons.proofs.numbered.Statement.{statement}
+use Rattle.reasons.proofs.numbered.Tie as tie
 
 number-requires : tie.Need-number-requires
 number-requires c κs = search needs

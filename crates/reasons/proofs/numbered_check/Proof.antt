@@ -1,7 +1,7 @@
 -- Each arm is a case of the definition.
 use borrow.Author.Needs.{needs}
-use Rattle.am29332.proofs.numbered_check.Statement.{statement}
-use Rattle.am29332.proofs.numbered_check.Tie as tie
+use Rattle.reasons.proofs.numbered_check.Statement.{statement}
+use Rattle.reasons.proofs.numbered_check.Tie as tie
 
 enum-told : tie.Need-enum-told
 enum-told c = search needs
