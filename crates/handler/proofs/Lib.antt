@@ -2,3 +2,4 @@
 pub mod FormLaws
 pub mod OverlapLaws
 pub mod ScheduleLaws
+pub mod Answers

@@ -6,7 +6,7 @@ use sheet::Which;
 ghost use mathlib.Core.Path.{_≡_};
 ghost use Prim.Native.Nat.{_+_, _*_, _≤_, _<_};
 ghost use lib.ListN.{length, getD};
-ghost use Rattle.reasons.specs.Reasons.{firstOf, rowsBy};
+ghost use Rattle.reasons.specs.Reasons.{firstOf, rowsBy, checkNumbers};
 ghost use Rattle.packing.specs.Registers.{common, namesAll, Narrow};
 ghost use Rattle.sheet.specs.Sheet.{wordsOf, wordsFrom};
 ghost use Rattle.handler.specs.Form.{saves, notFixed, savingStatusFault, savingQFault, bodyFault, loadingFault, givingBackFault, faultAt, formRow, formOf, handlerOf};
@@ -170,6 +170,7 @@ pub fn form(h: &[u8]) -> Check
 // A sheet handed in as a handler, on its own: its own reasons, then the form.
 pub fn check_handler(s: &[u8]) -> Check
     ensures { λ r. ⌜ r ≡ handlerOf (now (s .entry)) ⌝ }
+    ensures numbers { λ r. ⌜ checkNumbers r ≡ checkNumbers (handlerOf (now (s .entry))) ⌝ }
 {
     let own = sheet::check_sheet(s);
     if let Check::Bad { reason, place } = own {

@@ -1,3 +1,4 @@
 -- These proofs assume nothing.
 pub mod Positions
 pub mod Table
+pub mod Answers

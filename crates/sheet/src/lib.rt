@@ -5,7 +5,7 @@ use reasons::Reason;
 ghost use mathlib.Core.Path.{_≡_};
 ghost use Prim.Native.Nat.{_+_, _*_, _≤_};
 ghost use lib.ListN.{length};
-ghost use Rattle.reasons.specs.Reasons.{firstOf, noneHold, rowsBy};
+ghost use Rattle.reasons.specs.Reasons.{firstOf, noneHold, rowsBy, checkNumbers};
 ghost use Rattle.packing.specs.Registers.{Narrow};
 ghost use Rattle.sheet.specs.Sheet.{number4, countOf, registersOf, wordsOf, declaredOf, partOf, numberAt, wordAt, executionsOf, sheetOf, badHeader, fewer, numberRows, wordRows, headRows, startRows, checkBeside, checkOf, inputOf};
 
@@ -286,6 +286,7 @@ fn check(beside: usize, s: &[u8], file: Given, start: Given) -> Check
 // A sheet on its own: no file is lent and no start word given, so 7 and 10 are skipped.
 pub fn check_sheet(s: &[u8]) -> Check
     ensures { λ r. ⌜ r ≡ checkOf (now (s .entry)) Given.Absent Given.Absent ⌝ }
+    ensures numbers { λ r. ⌜ checkNumbers r ≡ checkNumbers (checkOf (now (s .entry)) Given.Absent Given.Absent) ⌝ }
 {
     check(0, s, Given::Absent, Given::Absent)
 }
@@ -293,6 +294,7 @@ pub fn check_sheet(s: &[u8]) -> Check
 // A sheet with a file of `lent` registers, and no start word.
 pub fn check_on_file(s: &[u8], lent: usize) -> Check
     ensures { λ r. ⌜ r ≡ checkOf (now (s .entry)) (Given.Number lent) Given.Absent ⌝ }
+    ensures numbers { λ r. ⌜ checkNumbers r ≡ checkNumbers (checkOf (now (s .entry)) (Given.Number lent) Given.Absent) ⌝ }
 {
     check(0, s, Given::Number(lent), Given::Absent)
 }
@@ -300,6 +302,7 @@ pub fn check_on_file(s: &[u8], lent: usize) -> Check
 // A sheet with a file of `lent` registers, started at execution `start`.
 pub fn check_start(s: &[u8], lent: usize, start: usize) -> Check
     ensures { λ r. ⌜ r ≡ checkOf (now (s .entry)) (Given.Number lent) (Given.Number start) ⌝ }
+    ensures numbers { λ r. ⌜ checkNumbers r ≡ checkNumbers (checkOf (now (s .entry)) (Given.Number lent) (Given.Number start)) ⌝ }
 {
     check(0, s, Given::Number(lent), Given::Number(start))
 }

@@ -17,7 +17,7 @@ enum-known-first c = search needs
 returns : tie.Need-returns
 returns c =
     let a = c .before .before .before .before .before .before .before .args in
-    judged-main (now (a .main)) (now (a .handler)) (now (a .schedule)) (a .lent) _ _ (sym (c .before .before .before .check-on-file .ensures) ∙ c .before .first .given .1)
+    judged-main (now (a .main)) (now (a .handler)) (now (a .schedule)) (a .lent) _ _ (sym (c .before .before .before .check-on-file .ensures .0) ∙ c .before .first .given .1)
 
 enum-told : tie.Need-enum-told
 enum-told c = search needs
@@ -32,7 +32,7 @@ returns-2 : tie.Need-returns-2
 returns-2 c =
     let a = c .before .before .before .before .before .before .before .before .before .before .args in
     judged-handler (now (a .main)) (now (a .handler)) (now (a .schedule)) (a .lent) _ _
-    (sym (c .before .before .before .before .before .before .check-on-file .ensures) ∙ c .before .before .before .before .enum-told .given .1) (sym (c .before .before .before .check-on-file2 .ensures) ∙ c .before .second .given .1)
+    (sym (c .before .before .before .before .before .before .check-on-file .ensures .0) ∙ c .before .before .before .before .enum-told .given .1) (sym (c .before .before .before .check-on-file2 .ensures .0) ∙ c .before .second .given .1)
 
 enum-told-2 : tie.Need-enum-told-2
 enum-told-2 c = search needs
@@ -40,8 +40,8 @@ enum-told-2 c = search needs
 judge-pair-requires : tie.Need-judge-pair-requires
 judge-pair-requires c κs =
     let a = c .before .before .before .before .before .before .before .before .before .args in (
-      ready (now (a .main)) (a .lent) Absent (sym (c .before .before .before .before .before .check-on-file .ensures) ∙ c .before .before .before .enum-told .given .1),
-      ready (now (a .handler)) (a .lent) Absent (sym (c .before .before .check-on-file2 .ensures) ∙ c .enum-told2 .given .1),
+      ready (now (a .main)) (a .lent) Absent (sym (c .before .before .before .before .before .check-on-file .ensures .0) ∙ c .before .before .before .enum-told .given .1),
+      ready (now (a .handler)) (a .lent) Absent (sym (c .before .before .check-on-file2 .ensures .0) ∙ c .enum-told2 .given .1),
     )
 
 returns-3 : tie.Need-returns-3
@@ -49,7 +49,7 @@ returns-3 c =
     let a = c .before .before .before .before .before .before .before .before .before .before .args in
     c .judge-pair .ensures
     ∙ judged-pair (now (a .main)) (now (a .handler)) (now (a .schedule)) (a .lent)
-    (sym (c .before .before .before .before .before .before .check-on-file .ensures) ∙ c .before .before .before .before .enum-told .given .1) (sym (c .before .before .before .check-on-file2 .ensures) ∙ c .before .enum-told2 .given .1)
+    (sym (c .before .before .before .before .before .before .check-on-file .ensures .0) ∙ c .before .before .before .before .enum-told .given .1) (sym (c .before .before .before .check-on-file2 .ensures .0) ∙ c .before .enum-told2 .given .1)
 
 pub judge-spec : {M : Type 1} → statement M
 judge-spec =

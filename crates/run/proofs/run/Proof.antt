@@ -17,26 +17,26 @@ returns : tie.Need-returns
 returns c =
     let k = c .before .before .before in
     let a = k .before .before .before .args in
-    run-refused (now (a .sheet)) (now (a .file)) (a .machine) (a .start) (a .allowance) _ _ (sym (k .check-start .ensures) ∙ c .before .check .given .1)
+    run-refused (now (a .sheet)) (now (a .file)) (a .machine) (a .start) (a .allowance) _ _ (sym (k .check-start .ensures .0) ∙ c .before .check .given .1)
 
 executions-requires : tie.Need-executions-requires
 executions-requires c κs =
     let k = c .before .before in
     let a = k .before .before .before .args in
-    ready (now (a .sheet)) (length (now (a .file))) (Number (a .start)) (sym (k .check-start .ensures) ∙ c .enum-told .given .1) .long
+    ready (now (a .sheet)) (length (now (a .file))) (Number (a .start)) (sym (k .check-start .ensures .0) ∙ c .enum-told .given .1) .long
 
 sub-least : tie.Need-sub-least
 sub-least c =
     let k = c .before .before .before in
     let a = k .before .before .before .args in
-    omega (arith, c .executions .ensures, start-within (now (a .sheet)) (Number (length (now (a .file)))) (a .start) (sym (k .check-start .ensures) ∙ c .before .enum-told .given .1))
+    omega (arith, c .executions .ensures, start-within (now (a .sheet)) (Number (length (now (a .file)))) (a .start) (sym (k .check-start .ensures .0) ∙ c .before .enum-told .given .1))
 
 span-requires : tie.Need-span-requires
 span-requires c κs =
     let e = c .before .before .before in
     let k = e .before .before .before in
     let a = k .before .before .before .args in
-    let passed = sym (k .check-start .ensures) ∙ e .before .enum-told .given .1 in
+    let passed = sym (k .check-start .ensures .0) ∙ e .before .enum-told .given .1 in
     let h = start-within (now (a .sheet)) (Number (length (now (a .file)))) (a .start) passed in (
       (ready (now (a .sheet)) (length (now (a .file))) (Number (a .start)) passed, subst (λ (x : Core). Good (x .status)) (sym (c .before .enter .ensures)) (taken-good (a .machine))),
       (omega arith, omega (arith, e .executions .ensures, c .before .before .least .ensures), omega (arith, c .before .before .least .ok)),
@@ -54,7 +54,7 @@ returns-2 c =
     let s = now (a .sheet) in
     went-ran _ (now (a .file)) (a .machine) _ _ _ _ (n .before .before .enter .ensures)
     (went-list (executed-is s (a .start) (a .allowance) _ _ (e .executions .ensures) (n .before .before .before .least .ensures)) (n .span .ensures)) (c .leave .ensures)
-    ∙ sym (run-is s (now (a .file)) (a .machine) (a .start) (a .allowance) (sym (k .check-start .ensures) ∙ e .before .enum-told .given .1))
+    ∙ sym (run-is s (now (a .file)) (a .machine) (a .start) (a .allowance) (sym (k .check-start .ensures .0) ∙ e .before .enum-told .given .1))
 
 pub run-spec : {M : Type 1} → statement M
 run-spec =
