@@ -1,5 +1,5 @@
--- The two ways in which a run ends; running in parts equals running at once; and a run has one outcome.
-use mathlib.Core.Path.{_≡_, ap, ap₂, sym, subst, _∙_}
+-- The two ways in which a run ends; running in parts equals running at once; a run has one outcome; and what `run` promises, clause by clause.
+use mathlib.Core.Path.{_≡_, refl, ap, ap₂, sym, subst, _∙_}
 use mathlib.Core.List.{List, [], _++_}
 use Prim.Native.Nat.{ℕ, _+_, _-_, _^_, _≤_, _<_, min}
 use native.Mathlib.Omega.{arith}
@@ -10,6 +10,7 @@ use Rattle.machine.specs.declared.Core.{Core}
 use Rattle.machine.specs.declared.Shown.{Shown}
 use Rattle.machine.specs.Core.{taken, handedBack}
 use Rattle.machine.proofs.Handed.{taken-back, taken-good}
+use Rattle.reasons.specs.Reasons.{numberOf, outcomeOf}
 use Rattle.reasons.specs.declared.Reason.{Reason}
 use Rattle.reasons.specs.declared.Reason.the-variants.{Done}
 use Rattle.reasons.specs.declared.Check.{Check}
@@ -21,8 +22,10 @@ use Rattle.sheet.specs.Sheet.{executionsOf, between, checkOf}
 use Rattle.sheet.specs.declared.Given.the-variants.{Number}
 use Rattle.sheet.proofs.Positions.{all-take, all-drop, take-left, drop-left}
 use Rattle.sheet.proofs.Table.{ready, start-within, start-later}
+use Rattle.sheet.proofs.Answers.{check-tells}
 use Rattle.run.specs.declared.Going.{Going}
-use Rattle.run.specs.Run.{stateOf, entering, Sane, executed, Ended, ended, ran, unless, runOf, Stepped, Went}
+use Rattle.run.specs.declared.RunAnswer.{RunAnswer}
+use Rattle.run.specs.Run.{stateOf, entering, Sane, executed, Ended, ended, ran, unless, runOf, ranNumbers, runNumbers, afterwards, together, inParts, Stepped, Went}
 use Rattle.run.proofs.Laws.{each-ready, execs-sane}
 
 -- ---- the two ways in which a run ends
@@ -70,15 +73,6 @@ entering-sane file m f q = record { file = f; q = q; status = taken-good m }
 pub back : (t : State) → Sane t → entering (t .file) (handedBack (t .core)) ≡ t
 back t g = ap (state (t .file)) (taken-back (t .core) (g .status))
 
--- a run from what another left, from the word after its last on
-abbrev pub afterwards : List ℕ → ℕ → Ended → ℕ → Ended
-afterwards s start first allowance = runOf s (first .file) (first .answer .machine) (start + first .answer .place) allowance
-
--- two runs as one: what the second left, and the words of both
-abbrev pub together : Ended → Ended → Ended
-together first second =
-    ended (record { reason = second .answer .reason; place = first .answer .place + second .answer .place; machine = second .answer .machine }) (second .file)
-
 module _ (s file : List ℕ) (m : Machine) (start a b : ℕ) (registers : (r : ℕ) → readAt file r < 2 ^ 32) (q : m .q < 2 ^ 32)
     (passed : checkOf s (Number (length file)) (Number start) ≡ Passed) where
   -- the executions left, those of the first run, and the state after it
@@ -113,7 +107,7 @@ module _ (s file : List ℕ) (m : Machine) (start a b : ℕ) (registers : (r : �
 
   -- Running in parts equals running at once. A run of a executions, and from what it left a run of b more, leave the registers, Q and the
   -- status that one run of a + b leaves, and the counts of the two add up to its count.
-  pub run-in-parts : runOf s file m start (a + b) ≡ together (runOf s file m start a) (afterwards s start (runOf s file m start a) b)
+  pub run-in-parts : runOf s file m start (a + b) ≡ inParts s file m start a b
   run-in-parts =
       let second : List Word = take b (drop a rest) in
       let whole : executed s start (a + b) ≡ first ++ second = take-add a b rest in
@@ -141,3 +135,42 @@ one-step w t l k x y a b = (ap (λ (u : State). u .file) (a .state ∙ sym (b .s
 pub one-outcome : (s file : List ℕ) (m : Machine) (start allowance : ℕ) (x y : Ended)
     → x ≡ runOf s file m start allowance → y ≡ runOf s file m start allowance → x ≡ y
 one-outcome s file m start allowance x y e f = e ∙ sym f
+
+-- ---- the promise of `run`, from its first clause
+module _ (s file : List ℕ) (m : Machine) (start allowance : ℕ) where
+  -- an answer with reason 0 was not refused
+  done-passed : runOf s file m start allowance .answer .reason ≡ Done → checkOf s (Number (length file)) (Number start) ≡ Passed
+  done-passed e = go (checkOf s (Number (length file)) (Number start)) refl
+    where
+      go : (c : Check) → checkOf s (Number (length file)) (Number start) ≡ c → c ≡ Passed
+      go Passed d = refl
+      go (Bad r p) d =
+          let f : r ≡ Done = ap (λ (x : Ended). x .answer .reason) (run-refused s file m start allowance r p d) ∙ e in
+          let n : numberOf r ≡ 0 = ap numberOf f in
+          absurd (omega (arith, check-tells s (Number (length file)) (Number start) r p d))
+
+  told : outcomeOf (runOf s file m start allowance .answer .reason) (runOf s file m start allowance .answer .place) ≡ runNumbers s (length file) start allowance
+  unfolding runOf
+  told = go (checkOf s (Number (length file)) (Number start))
+    where
+      ws : List Word
+      ws = executed s start allowance
+
+      go : (c : Check) → outcomeOf (unless c file m (ran ws (entering file m)) .answer .reason) (unless c file m (ran ws (entering file m)) .answer .place) ≡ ranNumbers c (length ws)
+      go Passed = refl
+      go (Bad r p) = refl
+
+  -- The answer in numbers; and where the run is done, it is the same as any two runs of parts of its allowance, one after the other.
+  pub promised : ((r : ℕ) → readAt file r < 2 ^ 32) → m .q < 2 ^ 32 → (r : RunAnswer) (l : List ℕ) → ended r l ≡ runOf s file m start allowance
+      → (ended r l ≡ runOf s file m start allowance)
+      × ((outcomeOf (r .reason) (r .place) ≡ runNumbers s (length file) start allowance)
+      × (r .reason ≡ Done → (a b : ℕ) → a + b ≡ allowance → ended r l ≡ inParts s file m start a b))
+  promised registers q r l e = (
+    e,
+    (
+      ap (λ (x : Ended). outcomeOf (x .answer .reason) (x .answer .place)) e ∙ told,
+      λ d a b h.
+          e ∙ ap (runOf s file m start) (sym h)
+          ∙ run-in-parts s file m start a b registers q (done-passed (sym (ap (λ (x : Ended). x .answer .reason) e) ∙ d)),
+    ),
+  )

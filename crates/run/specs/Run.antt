@@ -8,6 +8,8 @@ use Rattle.machine.specs.declared.Machine.{Machine}
 use Rattle.machine.specs.declared.Shown.{Shown}
 use Rattle.machine.specs.Status.{Good}
 use Rattle.machine.specs.Core.{taken, handedBack}
+use Rattle.reasons.specs.Reasons.{outcomeOf}
+use Rattle.reasons.specs.declared.Outcome.{Outcome}
 use Rattle.reasons.specs.declared.Reason.the-variants.{Done}
 use Rattle.reasons.specs.declared.Check.{Check}
 use Rattle.reasons.specs.declared.Check.the-variants.{Good as Passed, Bad}
@@ -53,6 +55,28 @@ executed s start allowance = take allowance (drop start (executionsOf s))
 unfoldable pub runOf : List ℕ → List ℕ → Machine → ℕ → ℕ → Ended
 runOf s file m start allowance =
     unless (checkOf s (Number (length file)) (Number start)) file m (ran (executed s start allowance) (entering file m))
+
+-- in numbers: 0 and the executions that ran, or the number and the place of a refusal
+abbrev pub ranNumbers : Check → ℕ → Outcome
+ranNumbers Passed n = outcomeOf Done n
+ranNumbers (Bad reason place) n = outcomeOf reason place
+
+abbrev pub runNumbers : List ℕ → ℕ → ℕ → ℕ → Outcome
+runNumbers s lent start allowance = ranNumbers (checkOf s (Number lent) (Number start)) (length (executed s start allowance))
+
+-- ---- running in parts
+-- a run from what another left, from the execution after its last on
+abbrev pub afterwards : List ℕ → ℕ → Ended → ℕ → Ended
+afterwards s start first allowance = runOf s (first .file) (first .answer .machine) (start + first .answer .place) allowance
+
+-- two runs as one: what the second left, and the executions of both
+abbrev pub together : Ended → Ended → Ended
+together first second =
+    ended (record { reason = second .answer .reason; place = first .answer .place + second .answer .place; machine = second .answer .machine }) (second .file)
+
+-- a run of at most a executions, and from what it left one of at most b more
+abbrev pub inParts : List ℕ → List ℕ → Machine → ℕ → ℕ → ℕ → Ended
+inParts s file m start a b = together (runOf s file m start a) (afterwards s start (runOf s file m start a) b)
 
 -- ---- inside a run
 -- one word ran: what it shows, and the state after it

@@ -9,12 +9,13 @@ use reasons::Reason;
 use sheet::Which;
 ghost use mathlib.Core.Path.{_≡_};
 ghost use mathlib.Core.List.{[], _∷_};
-ghost use Prim.Native.Nat.{_+_, _-_, _^_, _≤_, _<_, min};
+ghost use Prim.Native.Nat.{ℕ, _+_, _-_, _^_, _≤_, _<_, min};
 ghost use lib.ListN.{length};
 ghost use Rattle.machine.specs.Status.{Good};
+ghost use Rattle.reasons.specs.Reasons.{outcomeOf};
 ghost use Rattle.chip.specs.Lists.{state};
 ghost use Rattle.sheet.specs.Sheet.{sheetOf, wordsOf, wordAt, executionsOf, between, WordReady, Ready};
-ghost use Rattle.run.specs.Run.{Stepped, Went, ended, runOf};
+ghost use Rattle.run.specs.Run.{Stepped, Went, ended, runOf, runNumbers, inParts};
 
 // What a run answers: done, with the number of words run as its place, or the reason and place of a refusal; Q and status.
 pub struct RunAnswer {
@@ -143,6 +144,9 @@ pub fn run(
     allowance: usize,
 ) -> RunAnswer
     ensures { λ r. ⌜ ended r (now (file .exit)) ≡ runOf (now (sheet .entry)) (now (file .entry)) machine start allowance ⌝ }
+    ensures numbers { λ r. ⌜ outcomeOf (r .reason) (r .place) ≡ runNumbers (now (sheet .entry)) (length (now (file .entry))) start allowance ⌝ }
+    ensures in_parts { λ r. ⌜ (r .reason ≡ Reason.Done → (a b : ℕ) → a + b ≡ allowance
+        → ended r (now (file .exit)) ≡ inParts (now (sheet .entry)) (now (file .entry)) machine start a b) ⌝ }
 {
     let check = sheet::check_start(sheet, file.len(), start);
     if let Check::Bad { reason, place } = check {

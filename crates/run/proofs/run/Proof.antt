@@ -6,9 +6,10 @@ use lib.ListN.{length}
 use Rattle.machine.specs.declared.Core.{Core}
 use Rattle.machine.specs.Status.{Good}
 use Rattle.machine.proofs.Handed.{taken-good}
+use Rattle.chip.proofs.Files.{read-small}
 use Rattle.sheet.specs.declared.Given.the-variants.{Number}
 use Rattle.sheet.proofs.Table.{ready, start-within}
-use Rattle.run.proofs.Parts.{run-refused, run-is, went-ran, went-list, executed-is}
+use Rattle.run.proofs.Parts.{run-refused, run-is, went-ran, went-list, executed-is, promised}
 use borrow.Author.Needs.{needs}
 use Rattle.run.proofs.run.Statement.{statement}
 use Rattle.run.proofs.run.Tie as tie
@@ -16,8 +17,10 @@ use Rattle.run.proofs.run.Tie as tie
 returns : tie.Need-returns
 returns c =
     let k = c .before .before .before in
-    let a = k .before .before .before .args in
-    run-refused (now (a .sheet)) (now (a .file)) (a .machine) (a .start) (a .allowance) _ _ (sym (k .check-start .ensures .0) ∙ c .before .check .given .1)
+    let z = k .before .before .before in
+    let a = z .args in
+    promised (now (a .sheet)) (now (a .file)) (a .machine) (a .start) (a .allowance) (read-small (now (a .file)) (λ r. k .before .slice-known .given r .fits)) (omega (arith, z .good .1 .1 .0)) _ _
+    (run-refused (now (a .sheet)) (now (a .file)) (a .machine) (a .start) (a .allowance) _ _ (sym (k .check-start .ensures .0) ∙ c .before .check .given .1))
 
 executions-requires : tie.Need-executions-requires
 executions-requires c κs =
@@ -50,11 +53,13 @@ returns-2 c =
     let n = c .before .before .before .before in
     let e = n .before .before .before .before in
     let k = e .before .before .before in
-    let a = k .before .before .before .args in
+    let z = k .before .before .before in
+    let a = z .args in
     let s = now (a .sheet) in
-    went-ran _ (now (a .file)) (a .machine) _ _ _ _ (n .before .before .enter .ensures)
+    promised s (now (a .file)) (a .machine) (a .start) (a .allowance) (read-small (now (a .file)) (λ r. k .before .slice-known .given r .fits)) (omega (arith, z .good .1 .1 .0)) _ _
+    (went-ran _ (now (a .file)) (a .machine) _ _ _ _ (n .before .before .enter .ensures)
     (went-list (executed-is s (a .start) (a .allowance) _ _ (e .executions .ensures) (n .before .before .before .least .ensures)) (n .span .ensures)) (c .leave .ensures)
-    ∙ sym (run-is s (now (a .file)) (a .machine) (a .start) (a .allowance) (sym (k .check-start .ensures .0) ∙ e .before .enum-told .given .1))
+    ∙ sym (run-is s (now (a .file)) (a .machine) (a .start) (a .allowance) (sym (k .check-start .ensures .0) ∙ e .before .enum-told .given .1)))
 
 pub run-spec : {M : Type 1} → statement M
 run-spec =
