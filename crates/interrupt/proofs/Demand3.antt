@@ -1,4 +1,4 @@
--- DEMAND 3. An interrupted run that is not refused leaves no trace, as the promise of `interrupted` has its answer and its registers.
+-- DEMAND 3. An interrupted run that is not refused leaves no trace; and what `interrupted` promises, clause by clause.
 use mathlib.Core.Path.{_≡_, refl, sym, ap, _∙_, subst}
 use mathlib.Core.List.{List}
 use mathlib.Core.Bool.{Bool, true, false}
@@ -8,6 +8,7 @@ use lib.ListN.{length}
 use lib.Seq.{take-length}
 use Rattle.machine.specs.declared.Machine.{Machine}
 use Rattle.machine.specs.Core.{handedBack}
+use Rattle.reasons.specs.Reasons.{outcomeOf}
 use Rattle.reasons.specs.declared.Reason.the-variants.{Done}
 use Rattle.reasons.specs.declared.Check.the-variants.{Good as Passing}
 use Rattle.chip.specs.declared.Word.{Word}
@@ -22,9 +23,10 @@ use Rattle.run.specs.Run.{entering, Sane, Ended, ran}
 use Rattle.run.proofs.Laws.{each-ready, execs-sane}
 use Rattle.run.proofs.Parts.{run-is, entering-sane, back}
 use Rattle.handler.specs.Form.{savesStatus, savesQ}
-use Rattle.interrupt.specs.declared.Verdict.the-variants.{Fine}
+use Rattle.interrupt.specs.declared.Verdict.{Verdict}
+use Rattle.interrupt.specs.declared.Verdict.the-variants.{Fine, Refused}
 use Rattle.interrupt.specs.declared.Served.{Served}
-use Rattle.interrupt.specs.Interrupt.{verdictOf, Left, left, servedBy, lineOf, interruptedOf}
+use Rattle.interrupt.specs.Interrupt.{verdictOf, Left, left, servedBy, unlessRefused, lineOf, interruptedOf, markOf, servedNumbers, Numbered}
 use Rattle.interrupt.specs.Demand3.{alone, again, Own, NoTrace}
 use Rattle.interrupt.proofs.Owners.{Names, Agree, Same, Handler, Line, times}
 use Rattle.interrupt.proofs.NoTrace.{undisturbed, alike, untouched}
@@ -74,7 +76,10 @@ module _ (main h schedule file : List ℕ) (m : Machine) (registers : (r : ℕ) 
   abbrev line : List Word
   line = lineOf main h schedule
 
-  traceless : verdictOf main h schedule (length file) ≡ Fine → NoTrace main h schedule file m (interruptedOf main h schedule file m)
+  abbrev outcome : Left
+  outcome = interruptedOf main h schedule file m
+
+  traceless : verdictOf main h schedule (length file) ≡ Fine → NoTrace main h schedule file m (outcome .answer .machine) (outcome .file)
   traceless fine =
       let p : Passed main h schedule (length file) = passed main h schedule (length file) fine in
       let rm : Ready main (length file) = ready main (length file) Absent (p .main-good) in
@@ -123,11 +128,28 @@ module _ (main h schedule file : List ℕ) (m : Machine) (registers : (r : ℕ) 
   -- Whatever answer a and registers l meet the promise of `interrupted`: where the call is not refused, (a) every register that the main list
   -- names, Q and status end as in its undisturbed run, (b) every register that the handler names, s and q apart, ends as if the handler had run
   -- that often by itself, one whole run after another, from the same start, and (c) registers that neither names are as they were.
-  pub no-trace : (a : Served) (l : List ℕ) → left a l ≡ interruptedOf main h schedule file m → a .reason ≡ Done → NoTrace main h schedule file m (left a l)
+  pub no-trace : (a : Served) (l : List ℕ) → left a l ≡ outcome → a .reason ≡ Done → NoTrace main h schedule file m (a .machine) l
   no-trace a l e d =
-      subst (λ (x : Left). NoTrace main h schedule file m x) (sym e)
+      subst (λ (x : Left). NoTrace main h schedule file m (x .answer .machine) (x .file)) (sym e)
       (traceless (done-fine main h schedule file m (sym (ap (λ (x : Left). x .answer .reason) e) ∙ d)))
 
+  numbered : Numbered main h schedule (length file) (outcome .answer)
+  unfolding interruptedOf
+  numbered = go (verdictOf main h schedule (length file))
+    where
+      go : (v : Verdict) → (unlessRefused v file m (servedBy line t) .answer .mark ≡ markOf v)
+          × (outcomeOf (unlessRefused v file m (servedBy line t) .answer .reason) (unlessRefused v file m (servedBy line t) .answer .place) ≡ servedNumbers v (length line))
+      go Fine = (refl, refl)
+      go (Refused k r p) = (refl, refl)
+
+  -- the three clauses of the promise, from the first
+  pub promised : (a : Served) (l : List ℕ) → left a l ≡ outcome
+      → (left a l ≡ outcome) × (Numbered main h schedule (length file) a × (a .reason ≡ Done → NoTrace main h schedule file m (a .machine) l))
+  promised a l e = (
+    e,
+    (subst (λ (x : Left). Numbered main h schedule (length file) (x .answer)) (sym e) numbered, no-trace a l e),
+  )
+
   -- and no second outcome, answer and registers together, meets that promise
-  pub one-outcome : (x y : Left) → x ≡ interruptedOf main h schedule file m → y ≡ interruptedOf main h schedule file m → x ≡ y
+  pub one-outcome : (x y : Left) → x ≡ outcome → y ≡ outcome → x ≡ y
   one-outcome x y e f = e ∙ sym f

@@ -10,7 +10,6 @@ use Rattle.packing.specs.Registers.{isIn}
 use Rattle.sheet.specs.Sheet.{executionsOf, namesIn}
 use Rattle.run.specs.Run.{Ended, runOf}
 use Rattle.handler.specs.Form.{savesStatus, savesQ}
-use Rattle.interrupt.specs.Interrupt.{Left}
 
 -- the whole sheet by itself
 abbrev pub alone : List ℕ → List ℕ → Machine → Ended
@@ -27,12 +26,12 @@ pub record Own (h : List ℕ) (r : ℕ) : Type 0 where
   pub not-s : r ≡ savesStatus h → ⊥
   pub not-q : r ≡ savesQ h → ⊥
 
--- what an interrupted run ended with, e, beside the runs of main list and handler by themselves from the same start
-pub record NoTrace (main h schedule file : List ℕ) (m : Machine) (e : Left) : Type 0 where
+-- Q and status `after` and the file l that an interrupted run handed back, beside the runs of main list and handler by themselves from the same start
+pub record NoTrace (main h schedule file : List ℕ) (m after : Machine) (l : List ℕ) : Type 0 where
   -- (a) every register that the main list names, Q and status end as in its undisturbed run
-  pub main-registers : (r : ℕ) → isIn (namesIn main) r ≡ true → readAt (e .file) r ≡ readAt (alone main file m .file) r
-  pub machine : e .answer .machine ≡ alone main file m .answer .machine
+  pub main-registers : (r : ℕ) → isIn (namesIn main) r ≡ true → readAt l r ≡ readAt (alone main file m .file) r
+  pub machine : after ≡ alone main file m .answer .machine
   -- (b) every register that the handler names, s and q apart, ends as if the handler had run that often by itself
-  pub handler-registers : (r : ℕ) → Own h r → readAt (e .file) r ≡ readAt (again (length schedule) h file m) r
+  pub handler-registers : (r : ℕ) → Own h r → readAt l r ≡ readAt (again (length schedule) h file m) r
   -- (c) registers that neither names are as they were
-  pub other-registers : (r : ℕ) → isIn (namesIn main) r ≡ false → isIn (namesIn h) r ≡ false → readAt (e .file) r ≡ readAt file r
+  pub other-registers : (r : ℕ) → isIn (namesIn main) r ≡ false → isIn (namesIn h) r ≡ false → readAt l r ≡ readAt file r

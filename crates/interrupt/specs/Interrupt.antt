@@ -1,9 +1,12 @@
 -- The interrupted run (document 01, 'The handler's form' and 'Reasons given'): its refusals in their order, each with the mark of the sheet
 -- that the fault is in, and what it leaves.
+use mathlib.Core.Path.{_≡_}
 use mathlib.Core.List.{List}
 use Prim.Native.Nat.{ℕ}
 use lib.ListN.{length}
 use Rattle.machine.specs.declared.Machine.{Machine}
+use Rattle.reasons.specs.Reasons.{outcomeOf}
+use Rattle.reasons.specs.declared.Outcome.{Outcome}
 use Rattle.reasons.specs.declared.Reason.the-variants.{Done}
 use Rattle.reasons.specs.declared.Check.{Check}
 use Rattle.reasons.specs.declared.Check.the-variants.{Good, Bad}
@@ -73,3 +76,18 @@ lineOf main h schedule = lineup (executionsOf main) (executionsOf h) 0 schedule
 unfoldable pub interruptedOf : List ℕ → List ℕ → List ℕ → List ℕ → Machine → Left
 interruptedOf main h schedule file m =
     unlessRefused (verdictOf main h schedule (length file)) file m (servedBy (lineOf main h schedule) (entering file m))
+
+-- in numbers: the mark; and 0 with the executions that ran, or the number and the place of a refusal
+abbrev pub markOf : Verdict → ℕ
+markOf Fine = inNeither
+markOf (Refused k r p) = k
+
+abbrev pub servedNumbers : Verdict → ℕ → Outcome
+servedNumbers Fine n = outcomeOf Done n
+servedNumbers (Refused k r p) n = outcomeOf r p
+
+-- an answer's mark and numbers are these
+abbrev pub Numbered : List ℕ → List ℕ → List ℕ → ℕ → Served → Type 0
+Numbered main h schedule lent a =
+    (a .mark ≡ markOf (verdictOf main h schedule lent))
+    × (outcomeOf (a .reason) (a .place) ≡ servedNumbers (verdictOf main h schedule lent) (length (lineOf main h schedule)))

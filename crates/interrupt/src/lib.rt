@@ -12,7 +12,8 @@ ghost use Rattle.machine.specs.Status.{Good};
 ghost use Rattle.sheet.specs.Sheet.{executionsOf, between, Ready};
 ghost use Rattle.run.specs.Run.{Went};
 ghost use Rattle.interrupt.specs.Serve.{Rising};
-ghost use Rattle.interrupt.specs.Interrupt.{marking, pairOf, verdictOf, left, lineOf, interruptedOf};
+ghost use Rattle.interrupt.specs.Interrupt.{marking, pairOf, verdictOf, left, lineOf, interruptedOf, Numbered};
+ghost use Rattle.interrupt.specs.Demand3.{NoTrace};
 
 // Whether an interrupted run is refused: the mark of the sheet that the fault is in (0 neither, 1 main, 2 handler), the reason and its place.
 pub enum Verdict {
@@ -146,7 +147,8 @@ fn serve<'a>(
     run::span(main, handler, Which::Main, file, on, at, end)
 }
 
-// The interrupted run: the main sheet with the handler let in at each boundary of the schedule, or a refusal that changes nothing.
+// The interrupted run: the main sheet with the handler let in at each boundary of the schedule, or a refusal that changes nothing. It leaves no
+// trace (demand 3).
 pub fn interrupted<'a>(
     main: &'a [u8],
     handler: &'a [u8],
@@ -156,6 +158,9 @@ pub fn interrupted<'a>(
 ) -> Served
     ensures { λ r. ⌜ left r (now (file .exit))
         ≡ interruptedOf (now (main .entry)) (now (handler .entry)) (now (schedule .entry)) (now (file .entry)) machine ⌝ }
+    ensures numbers { λ r. ⌜ Numbered (now (main .entry)) (now (handler .entry)) (now (schedule .entry)) (length (now (file .entry))) r ⌝ }
+    ensures no_trace { λ r. ⌜ (r .reason ≡ Reason.Done
+        → NoTrace (now (main .entry)) (now (handler .entry)) (now (schedule .entry)) (now (file .entry)) machine (r .machine) (now (file .exit))) ⌝ }
 {
     let verdict = judge(main, handler, schedule, file.len());
     if let Verdict::Refused {
