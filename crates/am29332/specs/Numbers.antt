@@ -34,8 +34,8 @@ abbrev pub packNumbers : Packed → Leaves Outcome
 packNumbers p = leaves (checkNumbers (p .check)) (p .bytes)
 
 -- a run: Q and status, and the file of registers
-abbrev pub runNumbers : Ended → Leaves Ran
-runNumbers e = leaves (record { outcome = outcomeOf (e .answer .reason) (e .answer .place); machine = e .answer .machine }) (e .file)
+abbrev pub ranNumbers : Ended → Leaves Ran
+ranNumbers e = leaves (record { outcome = outcomeOf (e .answer .reason) (e .answer .place); machine = e .answer .machine }) (e .file)
 
 -- an interrupted run: the mark besides
 abbrev pub interruptedNumbers : Left → Leaves Interrupted

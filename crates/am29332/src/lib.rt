@@ -5,6 +5,7 @@ use chip::Word;
 use machine::Machine;
 use reasons::Outcome;
 ghost use mathlib.Core.Path.{_≡_};
+ghost use Prim.Native.Nat.{ℕ, _+_};
 ghost use Rattle.reasons.specs.Reasons.{checkNumbers};
 ghost use Rattle.machine.specs.Core.{freshOf};
 ghost use Rattle.chip.specs.Single.{singleOf};
@@ -12,9 +13,10 @@ ghost use Rattle.packing.specs.Packing.{packOf, unpackOf};
 ghost use Rattle.sheet.specs.Sheet.{checkOf};
 ghost use Rattle.sheet.specs.declared.Given.the-variants.{Absent};
 ghost use Rattle.handler.specs.Form.{handlerOf};
-ghost use Rattle.run.specs.Run.{runOf};
+ghost use Rattle.run.specs.Run.{runOf, inParts};
 ghost use Rattle.interrupt.specs.Interrupt.{interruptedOf};
-ghost use Rattle.am29332.specs.Numbers.{singleNumbers, packNumbers, unpackNumbers, runNumbers, interruptedNumbers, leaves};
+ghost use Rattle.interrupt.specs.Demand3.{NoTrace};
+ghost use Rattle.am29332.specs.Numbers.{singleNumbers, packNumbers, unpackNumbers, ranNumbers, interruptedNumbers, leaves};
 
 // What a single word answers. The parity has a bit for each byte of Y, the highest byte's in bit 3.
 #[repr(C)]
@@ -119,7 +121,9 @@ pub extern "C" fn am29332_run(
     start: u64,
     allowance: u64,
 ) -> Ran
-    ensures { λ r. ⌜ leaves r (now (file .exit)) ≡ runNumbers (runOf (now (sheet .entry)) (now (file .entry)) machine start allowance) ⌝ }
+    ensures { λ r. ⌜ leaves r (now (file .exit)) ≡ ranNumbers (runOf (now (sheet .entry)) (now (file .entry)) machine start allowance) ⌝ }
+    ensures in_parts { λ r. ⌜ (r .outcome .reason ≡ 0 → (a b : ℕ) → a + b ≡ allowance
+        → leaves r (now (file .exit)) ≡ ranNumbers (inParts (now (sheet .entry)) (now (file .entry)) machine start a b)) ⌝ }
 {
     let answer = run::run(sheet, file, machine, start as usize, allowance as usize);
     let reason = answer.reason;
@@ -141,6 +145,8 @@ pub extern "C" fn am29332_interrupted_run<'a>(
 ) -> Interrupted
     ensures { λ r. ⌜ leaves r (now (file .exit))
         ≡ interruptedNumbers (interruptedOf (now (main .entry)) (now (handler .entry)) (now (schedule .entry)) (now (file .entry)) machine) ⌝ }
+    ensures no_trace { λ r. ⌜ (r .outcome .reason ≡ 0
+        → NoTrace (now (main .entry)) (now (handler .entry)) (now (schedule .entry)) (now (file .entry)) machine (r .machine) (now (file .exit))) ⌝ }
 {
     let answer = interrupt::interrupted(main, handler, schedule, file, machine);
     let reason = answer.reason;

@@ -10,7 +10,7 @@ numbered-check-requires : tie.Need-numbered-check-requires
 numbered-check-requires c κs = search needs
 
 returns : tie.Need-returns
-returns c = rw (c .numbered-check .ensures, c .before .check-handler .ensures)
+returns c = rw (c .numbered-check .ensures, c .before .check-handler .ensures .0)
 
 pub am29332-check-handler-spec : {M : Type 1} → statement M
 am29332-check-handler-spec =

@@ -1,5 +1,8 @@
 -- What the interrupted run leaves, its reason and place as numbers.
-use mathlib.Core.Path.{ap}
+use mathlib.Core.Path.{sym, ap, _∙_}
+use Rattle.reasons.specs.declared.Outcome.{Outcome}
+use Rattle.reasons.specs.declared.Reason.the-variants.{Done}
+use Rattle.reasons.proofs.Numbers.{number-once}
 use Rattle.am29332.specs.Numbers.{interruptedNumbers}
 use borrow.Author.Needs.{needs}
 use Rattle.am29332.proofs.am29332_interrupted_run.Statement.{statement}
@@ -15,7 +18,11 @@ same-length : tie.Need-same-length
 same-length c = search needs
 
 returns : tie.Need-returns
-returns c = rw (c .numbered .ensures) (ap interruptedNumbers (c .before .before .before .before .interrupted .ensures))
+returns c =
+    let e = c .before .before .before .before .interrupted .ensures in (
+      rw (c .numbered .ensures) (ap interruptedNumbers (e .0)),
+      λ d. e .1 .1 (number-once _ Done (sym (ap (λ (o : Outcome). o .reason) (c .numbered .ensures)) ∙ d)),
+    )
 
 pub am29332-interrupted-run-spec : {M : Type 1} → statement M
 am29332-interrupted-run-spec =
