@@ -41,11 +41,18 @@ static uint64_t stepped(uint64_t x)
 
 enum { SYSTEMATIC = 73728, CASES = 102400 };
 
-static const uint32_t PATTERNS[24] = {
-    0x00000000, 0x00000001, 0xFFFFFFFF, 0x0000007F, 0x00000080, 0x000000FF,
-    0x00007FFF, 0x00008000, 0x0000FFFF, 0x007FFFFF, 0x00800000, 0x00FFFFFF,
-    0x7FFFFFFF, 0x80000000, 0x55555555, 0xAAAAAAAA, 0x99999999, 0x9A9A9A9A,
-    0x00010000, 0xFFFF0000, 0x12345678, 0x45454545, 0x54545454, 0xFFFFFFFE};
+/* The digits 0, 1, 4, 5, 8, 9, A, F. */
+static uint32_t digit(uint32_t j) { return 0xFA985410u >> 4 * j & 15; }
+
+/* Pattern 0 to 255: near a power of two, turned over from 96 on; from 192 on
+ * the same two digits in every byte. */
+static uint32_t pattern(uint32_t k)
+{
+    uint32_t near = (1u << k % 32) + k / 32 % 3 - 1;
+    if (k >= 192)
+        return digit(k / 8 % 8) * 0x10101010u + digit(k % 8) * 0x01010101u;
+    return k >= 96 ? ~near : near;
+}
 
 static struct model_inputs systematic(uint8_t opcode, uint32_t i, uint64_t *x)
 {
@@ -58,14 +65,14 @@ static struct model_inputs systematic(uint8_t opcode, uint32_t i, uint64_t *x)
         .macro_select = (uint8_t)(k / 8 % 2),
         .macro_carry = (uint8_t)(k / 2 % 2), .macro_link = (uint8_t)(1 - link),
         .borrow = (uint8_t)(k / 16),
-        .a = PATTERNS[i / 3072], .b = PATTERNS[i / 128 % 24],
+        .a = pattern(i / 128 % 256), .b = pattern((r2 >> 11) % 256),
         .q = (uint32_t)(r1 >> 32), .status = status | k % 2 << 16 | link << 20};
     return in;
 }
 
 static uint32_t pattern_or(uint64_t choice, uint64_t drawn)
 {
-    return choice % 2 ? PATTERNS[choice / 2 % 24] : (uint32_t)drawn;
+    return choice % 2 ? pattern((uint32_t)(choice / 2)) : (uint32_t)drawn;
 }
 
 /* Puts one input out of range. */
@@ -97,33 +104,112 @@ static struct model_inputs random_case(uint8_t opcode, uint64_t *x)
         .macro_carry = (uint8_t)((r3 >> 14) % 2),
         .macro_link = (uint8_t)((r3 >> 15) % 2),
         .borrow = (uint8_t)((r3 >> 16) % 2),
-        .a = pattern_or((r3 >> 17) % 64, r2 >> 32),
-        .b = pattern_or((r3 >> 23) % 64, r2),
-        .q = pattern_or((r3 >> 29) % 64, r1 >> 32), .status = (uint32_t)r1};
-    if ((r3 >> 35) % 16 == 0)
-        spoil(&in, (r3 >> 39) % 8, (r3 >> 42) % 2 + 1);
+        .a = pattern_or((r3 >> 17) % 512, r2 >> 32),
+        .b = pattern_or((r3 >> 26) % 512, r2),
+        .q = pattern_or((r3 >> 35) % 512, r1 >> 32), .status = (uint32_t)r1};
+    if ((r3 >> 44) % 16 == 0)
+        spoil(&in, (r3 >> 48) % 8, (r3 >> 51) % 2 + 1);
     return in;
 }
 
-static uint64_t digest_of(uint8_t opcode)
+static uint64_t fold(uint64_t sum, const uint32_t *values, size_t count)
 {
-    uint64_t x = stepped(0x9E3779B97F4A7C15u ^ opcode), sum = 1;
+    for (size_t i = 0; i < count; i++)
+        sum = next(sum ^ values[i]);
+    return sum;
+}
+
+/* ---- The cases run on registers ----------------------------------------- */
+
+enum { REGISTERS = 64, SHEET_ROOM = 16 };
+
+/* What a run is called with, the file and the machine apart. */
+struct call {
+    uint8_t sheet[SHEET_ROOM];
+    size_t length, lent;
+    uint64_t start, allowance;
+};
+
+static void make_unusual(struct call *call, uint64_t kind, uint8_t n)
+{
+    switch (kind) {
+    case 0: call->sheet[2] = (uint8_t)(2 * n); break;
+    case 1: call->sheet[9] = (uint8_t)(call->sheet[9] | n % 32); break;
+    case 2: call->sheet[0] = n; break;
+    case 3: call->sheet[3] = n; break;
+    case 4: call->start = n % 4; break;
+    case 5: call->allowance = n % 4; break;
+    case 6: call->length = n % 16; break;
+    default: call->lent = n;
+    }
+}
+
+static struct model_word word_of(const struct model_inputs *in, uint64_t how)
+{
+    struct model_word word = {
+        .opcode = in->opcode, .byte_code = in->byte_code,
+        .position = in->position, .width = in->width,
+        .a = (uint8_t)(how % 64), .b = (uint8_t)((how >> 6) % 64),
+        .y = (uint8_t)((how >> 12) % 64), .write = (uint8_t)((how >> 18) % 2),
+        .macro_select = in->macro_select, .macro_carry = in->macro_carry,
+        .macro_link = in->macro_link, .borrow = in->borrow};
+    return word;
+}
+
+/* Runs one more case on the file, and folds what it leaves into the sum. */
+static uint64_t run_case(uint64_t sum, const struct model_inputs *in,
+                         uint64_t how, uint32_t *file)
+{
+    struct call call = {{0x10, 0x01, 0x80}, MODEL_HEADER_BYTES + MODEL_WORD_BYTES,
+                        REGISTERS, 0, 1};
+    struct model_word word = word_of(in, how);
+    struct model_machine machine = {in->q, in->status};
+    uint8_t *packed = call.sheet + MODEL_HEADER_BYTES;
+    uint32_t values[5];
+    struct model_verdict ran;
+    file[word.a] = in->a;
+    file[word.b] = in->b;
+    values[0] = model_pack(&word, packed, MODEL_WORD_BYTES).reason;
+    *packed = (uint8_t)(word.opcode % 128 * 2 + *packed % 2);
+    if ((how >> 19) % 16 == 0)
+        make_unusual(&call, (how >> 23) % 8, (uint8_t)((how >> 26) % 64));
+    ran = model_run(call.sheet, call.length, file, call.lent, &machine,
+                    call.start, call.allowance);
+    values[1] = ran.reason;
+    values[2] = (uint32_t)ran.place;
+    values[3] = machine.q;
+    values[4] = machine.status;
+    return fold(fold(sum, values, 5), file, REGISTERS);
+}
+
+/* ---- The digest --------------------------------------------------------- */
+
+static uint64_t single_case(uint64_t sum, const struct model_inputs *in)
+{
+    struct model_answer out = model_single(in);
+    const uint32_t values[6] = {out.reason, out.place, out.y,
+                                out.parity, out.q,     out.status};
+    return fold(sum, values, 6);
+}
+
+/* The cases as single words, and the same cases run on registers. */
+static void print_line(uint8_t opcode)
+{
+    uint64_t x = stepped(0x9E3779B97F4A7C15u ^ opcode), single = 1, run = 1;
+    uint32_t file[REGISTERS] = {0};
     for (uint32_t i = 0; i < CASES; i++) {
         struct model_inputs in = i < SYSTEMATIC ? systematic(opcode, i, &x)
                                                 : random_case(opcode, &x);
-        struct model_answer out = model_single(&in);
-        const uint32_t values[6] = {out.reason, out.place, out.y,
-                                    out.parity, out.q,     out.status};
-        for (int j = 0; j < 6; j++)
-            sum = next(sum ^ values[j]);
+        single = single_case(single, &in);
+        run = run_case(run, &in, draw(&x), file);
     }
-    return sum;
+    printf("%02X %016" PRIX64 " %016" PRIX64 "\n", opcode, single, run);
 }
 
 static int print_digest(void)
 {
     for (unsigned opcode = 0; opcode < 128; opcode++)
-        printf("%02X %016" PRIX64 "\n", opcode, digest_of((uint8_t)opcode));
+        print_line((uint8_t)opcode);
     return 0;
 }
 

@@ -16,13 +16,13 @@ echo "== build: ${compiler##*/} -O3"
 "$compiler" -std=c11 -O3 -Wall -Wextra -Werror -o "$test" \
     "$here/model.c" "$here/test-model.c"
 
-echo "== single word"
+echo "== single word, and words run on registers"
 "$oracle" vectors >"$work/vectors"
 "$test" vectors <"$work/vectors"
 "$oracle" digest >"$work/expected"
 "$test" digest >"$work/digest"
 cmp "$work/expected" "$work/digest"
-echo "digest: $(wc -l <"$work/digest" | tr -d ' ') opcode numbers, 102,400 cases each, 0 misses"
+echo "digest: $(wc -l <"$work/digest" | tr -d ' ') opcode numbers, 102,400 cases each, as single words and run on registers, 0 misses"
 
 echo "== words and sheets"
 "$test" words

@@ -112,6 +112,11 @@ fn carry_taken_in(cycle: &Cycle) -> bool {
 fn flags(cycle: &Cycle, y: Bits, chain: &Sum) -> Outcome {
     let mut out = cycle.pass_zn(y);
     let n = cycle.selected();
+    if cycle.has(Fault::SumZeroMissesBit20) {
+        let mut seen = y;
+        seen[20] = false;
+        out.status.z = cycle.zero(&seen);
+    }
     out.status.c = chain.carry[n];
     out.status.v = overflow(cycle, chain, n);
     out

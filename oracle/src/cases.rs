@@ -1,7 +1,7 @@
 //! Random sheets, handlers, schedules and damage, for the self-test and for
 //! the data other programs are compared with.
 
-use crate::draw::{next, PATTERNS};
+use crate::draw::{next, pattern, PATTERNS};
 use crate::interrupt::run_interrupted;
 use crate::pages::{has_page, number_of};
 use crate::run::Machine;
@@ -34,7 +34,7 @@ impl Random {
     /// A data word: a boundary pattern one time in three.
     pub fn word32(&mut self) -> u32 {
         match self.below(3) {
-            0 => PATTERNS[self.below(PATTERNS.len())],
+            0 => pattern(self.below(PATTERNS as usize) as u32),
             _ => self.number() as u32,
         }
     }

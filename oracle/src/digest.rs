@@ -2,11 +2,12 @@
 
 use crate::draw::{next, Draw, CASES, SYSTEMATIC};
 use crate::faults::{Fault, Faults, ALL};
+use crate::on_registers::Board;
 use crate::pages::MNEMONICS;
 use crate::word::{out_of_range, single, Answer, Inputs};
 use std::fmt::Write;
 
-/// Systematic cases taken into the vectors, one for each A pattern.
+/// Systematic cases taken into the vectors, at even distances.
 const FROM_SYSTEMATIC: u32 = 24;
 /// Every so many random cases, one is taken into the vectors.
 const RANDOM_STRIDE: u32 = 1_792;
@@ -28,9 +29,32 @@ fn fold(sum: u64, answer: &Answer) -> u64 {
         .fold(sum, |sum, &value| next(sum ^ u64::from(value)))
 }
 
-/// The digest of one opcode number.
-pub fn of_opcode(opcode: u8, faults: &Faults) -> u64 {
-    Draw::new(opcode).fold(1, |sum, inputs| fold(sum, &single(&inputs, faults)))
+/// The two sums of an opcode number's line: of the cases as single words, and
+/// of the same cases run on registers.
+#[derive(Clone, Copy, PartialEq)]
+struct Sums {
+    single: u64,
+    run: u64,
+}
+
+/// So many cases are a block: CASES is a multiple.
+const BLOCK: u32 = 1_024;
+
+/// The sums of an opcode number as they stand after each block of cases.
+fn sums_by_block(opcode: u8, faults: &Faults) -> impl Iterator<Item = Sums> + '_ {
+    let mut single_sum = 1;
+    let mut board = Board::new();
+    (1..)
+        .zip(Draw::new(opcode))
+        .filter_map(move |(done, case)| {
+            single_sum = fold(single_sum, &single(&case.inputs, faults));
+            board.run(&case, faults);
+            let sums = Sums {
+                single: single_sum,
+                run: board.sum,
+            };
+            u32::is_multiple_of(done, BLOCK).then_some(sums)
+        })
 }
 
 /// Work for each opcode number 0 to 127, shared between two threads.
@@ -46,12 +70,14 @@ fn for_each_opcode<T: Send>(work: impl Fn(u8) -> T + Sync) -> Vec<T> {
         .collect()
 }
 
-/// The digest text: `OO DDDDDDDDDDDDDDDD`, a line for each number 0 to 127.
+/// The digest text: `OO DDDDDDDDDDDDDDDD RRRRRRRRRRRRRRRR`, a line for each
+/// number 0 to 127.
 pub fn digest_text() -> String {
-    let sums = for_each_opcode(|opcode| of_opcode(opcode, &Faults::none()));
+    let sums = for_each_opcode(|opcode| sums_by_block(opcode, &Faults::none()).last());
     let mut text = String::new();
-    for (opcode, sum) in sums.iter().enumerate() {
-        writeln!(text, "{opcode:02X} {sum:016X}").expect("text");
+    for (opcode, sums) in sums.into_iter().enumerate() {
+        let Sums { single, run } = sums.expect("the last block");
+        writeln!(text, "{opcode:02X} {single:016X} {run:016X}").expect("text");
     }
     text
 }
@@ -64,7 +90,8 @@ pub fn vectors_text() -> String {
 fn vectors_of(opcode: u8) -> String {
     let mut text = String::new();
     let mut spoilt = 0;
-    for (i, inputs) in (0..).zip(Draw::new(opcode)) {
+    for (i, case) in (0..).zip(Draw::new(opcode)) {
+        let inputs = case.inputs;
         let mut wanted = is_spread(opcode, i);
         if !wanted && is_spoilt(&inputs) {
             spoilt += 1;
@@ -84,7 +111,7 @@ fn is_spoilt(inputs: &Inputs) -> bool {
 }
 
 /// The cases taken for their place in the draw. In the systematic part the
-/// stride 933 = 7 * 128 + 32 + 5 moves B, the byte code and the switches on at
+/// stride 933 = 7 * 128 + 32 + 5 moves A, the byte code and the switches on at
 /// once, and 37 = 32 + 5 starts each opcode elsewhere.
 fn is_spread(opcode: u8, i: u32) -> bool {
     if i >= SYSTEMATIC {
@@ -124,15 +151,38 @@ fn vector_line(inputs: &Inputs, answer: &Answer) -> String {
     line
 }
 
+/// A line without faults: its sums by block, and which faults were asked about.
+struct Right {
+    sums: Vec<Sums>,
+    asked: Vec<bool>,
+}
+
+impl Right {
+    fn of_opcode(opcode: u8) -> Right {
+        let faults = Faults::none();
+        Right {
+            sums: sums_by_block(opcode, &faults).collect(),
+            asked: ALL.iter().map(|&(f, _)| faults.was_asked(f)).collect(),
+        }
+    }
+
+    /// The first sums that a fault changes. A sum that differs once stays
+    /// different, so the rest of the line is not made.
+    fn first_change(&self, opcode: u8, fault: Fault) -> Option<(Sums, Sums)> {
+        let planted = Faults::plant(fault);
+        let mut both = self
+            .sums
+            .iter()
+            .copied()
+            .zip(sums_by_block(opcode, &planted));
+        both.find(|(right, wrong)| right != wrong)
+    }
+}
+
 /// Plants each fault in turn and prints the opcode numbers whose digest lines
 /// change. True where every fault is noticed.
 pub fn try_faults() -> bool {
-    let right = for_each_opcode(|opcode| {
-        let faults = Faults::none();
-        let sum = of_opcode(opcode, &faults);
-        let asked: Vec<bool> = ALL.iter().map(|&(f, _)| faults.was_asked(f)).collect();
-        (sum, asked)
-    });
+    let right = for_each_opcode(Right::of_opcode);
     let mut unnoticed = 0;
     for (i, &(fault, what)) in ALL.iter().enumerate() {
         let changed = changed_lines(fault, &right, i);
@@ -148,26 +198,42 @@ pub fn try_faults() -> bool {
     unnoticed == 0
 }
 
-/// The opcode numbers whose line differs. A line in whose making the model
-/// never asked about the fault is the same with it, and is not made again.
-fn changed_lines(fault: Fault, right: &[(u64, Vec<bool>)], i: usize) -> Vec<u8> {
-    let differs = for_each_opcode(|opcode| {
-        let (sum, asked) = &right[usize::from(opcode)];
-        asked[i] && of_opcode(opcode, &Faults::plant(fault)) != *sum
-    });
-    (0..128)
-        .filter(|&opcode| differs[usize::from(opcode)])
-        .collect()
+/// A line that a fault changes: does the sum of single words change with it?
+struct Changed {
+    opcode: u8,
+    single: bool,
 }
 
-fn report(what: &str, changed: &[u8]) {
+/// The lines that differ. A line in whose making the model never asked about
+/// the fault is the same with it, and is not made again.
+fn changed_lines(fault: Fault, right: &[Right], i: usize) -> Vec<Changed> {
+    let changed = for_each_opcode(|opcode| {
+        let line = &right[usize::from(opcode)];
+        if !line.asked[i] {
+            return None;
+        }
+        let (right, wrong) = line.first_change(opcode, fault)?;
+        let single = right.single != wrong.single;
+        Some(Changed { opcode, single })
+    });
+    changed.into_iter().flatten().collect()
+}
+
+fn report(what: &str, changed: &[Changed]) {
     let first = changed
         .first()
-        .map_or("none", |&o| MNEMONICS[usize::from(o)]);
+        .map_or("none", |line| MNEMONICS[usize::from(line.opcode)]);
     let first = if first.is_empty() { "no page" } else { first };
-    let numbers: Vec<String> = changed.iter().map(|o| format!("{o:02X}")).collect();
+    let alone = match changed.iter().any(|line| line.single) {
+        true => "",
+        false => " of the run alone",
+    };
+    let numbers: Vec<String> = changed
+        .iter()
+        .map(|line| format!("{:02X}", line.opcode))
+        .collect();
     println!(
-        "{what}: {} lines (first {first}): {}",
+        "{what}: {} lines{alone} (first {first}): {}",
         changed.len(),
         numbers.join(" ")
     );

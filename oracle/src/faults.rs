@@ -21,6 +21,7 @@ faults! {
     CarryInLost: "the carry taken in by ADDC, SUBC, SUBRC is lost",
     OverflowAt32Bits: "V taken at bit 31 whatever the byte code",
     ZeroOf32Bits: "Z of all 32 bits whatever the byte code",
+    SumZeroMissesBit20: "sums and differences: bit 20 left out of Z",
     ByteCodeIgnored: "byte code ignored, always four bytes",
     UnselectedFromA: "unselected bytes of two-operand words from A",
     UnselectedQCleared: "unselected bytes of Q not kept",
@@ -69,6 +70,14 @@ faults! {
     ParityOdd: "odd parity",
     RefusalsSwapped: "Inputs refused before Opcode",
     RefusalWorksOutStatus: "a refusal works out the status bits",
+    WriteIgnored: "a run stores Y whatever write says",
+    StoredToB: "a run stores Y in B's register",
+    RegisterOfFiveBits: "a run takes five bits of a register field",
+    IdleRegisterUnchecked: "Y's field not checked where write is 0",
+    StartAtEndRefused: "a start at the sheet's end refused",
+    AllowanceIgnored: "the allowance of a run ignored",
+    RunOfNoneKeepsStatus: "a run of no words keeps bits 13 to 15 and 23",
+    RefusedRunWorksOutStatus: "a refused run works out the status bits",
 }
 
 /// At most one planted fault, and a record of which faults were asked about.

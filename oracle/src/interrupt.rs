@@ -1,5 +1,6 @@
 //! The interrupted run: a main sheet, one handler, a schedule of boundaries.
 
+use crate::faults::Faults;
 use crate::handler::check_form;
 use crate::run::{settled, step, Machine};
 use crate::sheet::{check, refuse, word_at, Header, Verdict};
@@ -35,7 +36,7 @@ pub fn run_interrupted(
             let mut machine = settled(machine);
             for &(from_handler, i) in &order {
                 let sheet = if from_handler { handler } else { main };
-                step(&word_at(sheet, i), file, &mut machine);
+                step(&word_at(sheet, i), file, &mut machine, &Faults::none());
             }
             let verdict = refuse(reason::DONE, order.len());
             Interrupted {

@@ -15,6 +15,7 @@ mod interrupt;
 mod logic;
 mod movement;
 mod multiply;
+mod on_registers;
 mod pages;
 mod run;
 mod selftest;

@@ -1,6 +1,7 @@
 //! Words and sheets as packed bits, most significant first: packing,
 //! unpacking and checking (document 01, "Sheets and words").
 
+use crate::faults::{Fault, Faults};
 use crate::pages::has_page;
 use crate::word::reason;
 
@@ -189,7 +190,7 @@ pub fn word_at(sheet: &[u8], i: usize) -> Word {
 }
 
 /// Checks the words in order, in each 8 Spare, 1 Opcode, 9 Register.
-pub fn check_words(sheet: &[u8], header: Header) -> Result<(), Verdict> {
+pub fn check_words(sheet: &[u8], header: Header, faults: &Faults) -> Result<(), Verdict> {
     for i in 0..header.count {
         let bytes = &sheet[HEADER + WORD * i..];
         let (verdict, word) = unpack(bytes);
@@ -197,7 +198,9 @@ pub fn check_words(sheet: &[u8], header: Header) -> Result<(), Verdict> {
             return Err(refuse(verdict.reason, i));
         }
         let outside = |&r: &u8| usize::from(r) >= header.registers;
-        if word.registers().iter().any(outside) {
+        let idle = faults.has(Fault::IdleRegisterUnchecked) && word.write == 0;
+        let checked = &word.registers()[..if idle { 2 } else { 3 }];
+        if checked.iter().any(outside) {
             return Err(refuse(reason::REGISTER, i));
         }
     }
@@ -207,6 +210,16 @@ pub fn check_words(sheet: &[u8], header: Header) -> Result<(), Verdict> {
 /// Checks a sheet: 3 to 7, its words, then 10. No file lent skips 7, no start
 /// word skips 10.
 pub fn check(sheet: &[u8], lent: Option<usize>, start: Option<usize>) -> Result<Header, Verdict> {
+    check_with(sheet, lent, start, &Faults::none())
+}
+
+/// The same with a fault that may be planted.
+pub fn check_with(
+    sheet: &[u8],
+    lent: Option<usize>,
+    start: Option<usize>,
+    faults: &Faults,
+) -> Result<Header, Verdict> {
     let header = header(sheet)?;
     if sheet.len() != HEADER + WORD * header.count {
         return Err(refuse(reason::LENGTH, 0));
@@ -214,8 +227,11 @@ pub fn check(sheet: &[u8], lent: Option<usize>, start: Option<usize>) -> Result<
     if lent.is_some_and(|lent| lent < header.registers) {
         return Err(refuse(reason::FILE, 0));
     }
-    check_words(sheet, header)?;
-    if start.is_some_and(|start| start > header.count) {
+    check_words(sheet, header, faults)?;
+    let most = header
+        .count
+        .saturating_sub(usize::from(faults.has(Fault::StartAtEndRefused)));
+    if start.is_some_and(|start| start > most) {
         return Err(refuse(reason::START, 0));
     }
     Ok(header)

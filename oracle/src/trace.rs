@@ -1,5 +1,6 @@
 //! The trace program's text.
 
+use crate::faults::Faults;
 use crate::run::{step, Machine};
 use crate::sheet::{check_words, header, refuse, word_at, Header, Verdict, HEADER, WORD};
 use crate::word::reason;
@@ -23,7 +24,7 @@ fn check_input(input: &[u8]) -> Result<Header, Verdict> {
     if input.len() != HEADER + WORD * header.count + 4 * header.registers {
         return Err(refuse(reason::LENGTH, 0));
     }
-    check_words(input, header)?;
+    check_words(input, header, &Faults::none())?;
     Ok(header)
 }
 
@@ -31,7 +32,7 @@ fn run_and_print(input: &[u8], header: Header, text: &mut String) -> Verdict {
     let mut file = registers(&input[HEADER + WORD * header.count..]);
     let mut machine = Machine::default();
     for i in 0..header.count {
-        let y = step(&word_at(input, i), &mut file, &mut machine).y;
+        let y = step(&word_at(input, i), &mut file, &mut machine, &Faults::none()).y;
         let Machine { q, status } = machine;
         writeln!(text, "{i:04X} {y:08X} {q:08X} {status:08X}").expect("text");
     }

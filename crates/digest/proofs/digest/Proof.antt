@@ -1,14 +1,16 @@
--- The cases left fall.
+-- The cases left fall, and the registers stay 64.
+use mathlib.Core.Path.{_≡_}
 use Prim.Native.Nat.{_-_}
+use lib.ListN.{length}
 use borrow.Author.Needs.{needs}
 use Rattle.digest.proofs.digest.Statement.{statement}
 use Rattle.digest.proofs.digest.Tie as tie
 
 abbrev Inv-loop : tie.InvT-loop
-Inv-loop opcode seed₀ sum₀ i₀ seed sum i = Unit {0}
+Inv-loop opcode file₀ seed₀ sums₀ i₀ file seed sums i = length file ≡ 64
 
 abbrev μ-loop : tie.MeasureT-loop
-μ-loop opcode seed₀ sum₀ i₀ seed sum i = 102400 - i
+μ-loop opcode file₀ seed₀ sums₀ i₀ file seed sums i = 102400 - i
 
 pub digest-spec : {M : Type 1} → statement M
 digest-spec =
