@@ -43,8 +43,9 @@ impl Board {
         }
     }
 
-    /// Runs one more case, and folds what it leaves into the sum.
-    pub fn run(&mut self, case: &Case, faults: &Faults) {
+    /// Runs one more case, folds what it leaves into the sum, and says how it
+    /// ended.
+    pub fn run(&mut self, case: &Case, faults: &Faults) -> Ran {
         let word = word_of(&case.inputs, case.how);
         self.file[usize::from(word.a)] = case.inputs.a;
         self.file[usize::from(word.b)] = case.inputs.b;
@@ -60,6 +61,7 @@ impl Board {
         };
         let ran = call.run(&mut self.file, machine, faults);
         self.fold(packed.reason, ran);
+        ran
     }
 
     fn fold(&mut self, packed: u8, ran: Ran) {

@@ -3,6 +3,7 @@
 
 mod bench;
 mod decimal;
+mod draws;
 mod examples;
 mod manual;
 mod runs;
@@ -38,7 +39,7 @@ impl Group {
 type Test = (&'static str, fn(&mut Group));
 
 /// Every group, in order.
-const GROUPS: [Test; 22] = [
+const GROUPS: [Test; 24] = [
     ("document 01, examples a to m", examples::lettered),
     ("document 01, the trace example", examples::trace_example),
     ("manual, field pages", manual::field_pages),
@@ -76,6 +77,8 @@ const GROUPS: [Test; 22] = [
     ),
     ("a run in parts equals a run at once", runs::in_parts),
     ("interrupts leave main undisturbed", runs::interrupts),
+    ("the draw's boundary patterns", draws::patterns),
+    ("the draw's runs end in every way", draws::reasons),
 ];
 
 /// Runs every group; true where nothing missed.
