@@ -7,3 +7,4 @@ pub mod Facts
 pub mod Files
 pub mod Words
 pub mod Examples
+pub mod PutBack
