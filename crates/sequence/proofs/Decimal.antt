@@ -1,23 +1,25 @@
 -- Decimal sums and differences come out exact on registers.
 use mathlib.Core.Path.{_≡_, refl, sym, ap, _∙_, subst}
 use mathlib.Core.List.{List, [], _∷_}
-use Prim.Native.Nat.{ℕ, zero, suc, _+_, _-_, _*_, _/_, _^_, _≤_, _<_}
+use Prim.Native.Nat.{ℕ, zero, suc, _+_, _-_, _*_, _/_, _%_, _^_, _≤_, _<_}
 use native.Mathlib.Omega.{arith}
 use lib.ListN.{length}
-use Rattle.bits.specs.Bits.{choose, bitOf, merged, notOf}
+use Rattle.bits.specs.Bits.{selected, choose, xor, bitOf, merged, notOf}
+use Rattle.bits.proofs.BitByBit.{bit-lt}
+use Rattle.bits.proofs.Bounds.{selected-bounds}
 use Rattle.machine.specs.declared.Inputs.{Inputs}
 use Rattle.machine.specs.declared.Outputs.{Outputs}
-use Rattle.machine.specs.Inputs.{bitsOf, carryIn, Sound}
+use Rattle.machine.specs.Status.{withC, withV, withNibbles}
+use Rattle.machine.specs.Inputs.{carryIn, zeroSign, Sound}
 use Rattle.arithmetic.specs.Nibbles.{nibbleCarries, nibbleBorrows}
 use Rattle.arithmetic.specs.Arithmetic.{sum, difference, borrowIn}
 use Rattle.arithmetic.specs.Decimal.{sumCorrect, diffCorrect}
 use Rattle.chip.specs.Glossary.{performOf}
 use Rattle.chip.specs.Lists.{State, state, readAt, storeAt, inputsOf, stepOf, execs}
-use Rattle.sequence.specs.Sequences.{bitsIn}
-use Rattle.sequence.specs.Decimal.{Digits, value, digitsIn, DecimalOperation, additions, subtractions, Side, Side.at-A, Side.at-B, Layout, wordWith, calculation, correctionAt, decimalWords, facing, Elsewhere, DecimalSum, DecimalDifference, SumExact, DifferenceExact, Each}
+use Rattle.sequence.specs.Decimal.{Digits, value, decimalCarry, decimalBorrow, DecimalOperation, additions, subtractions, Side, Side.at-A, Side.at-B, Layout, wordWith, calculation, correctionAt, sumWords, differenceWords, bitsIn, digitsIn, facing, OfDigits, Elsewhere, DecimalSum, DecimalDifference, Summed, TakenAway, SumExact, DifferenceExact, Each}
 use Rattle.chip.proofs.Files.{store-length, read-same, read-other}
-use Rattle.sequence.proofs.Lists.{merged-high, bits-of-bytes}
-use Rattle.sequence.proofs.DecimalNumbers.{SumCorrected, DiffCorrected}
+use Rattle.sequence.proofs.Lists.{merged-low, merged-high, zero-sign-low}
+use Rattle.sequence.proofs.DecimalNumbers.{SumCorrected, DiffCorrected, borrow-is, digits-fewer}
 use Rattle.sequence.proofs.DecimalWords.{sum-at, difference-at}
 
 -- ---- the two words on registers
@@ -64,6 +66,10 @@ module _ (d : Layout) (t : State) (hy : d .y < length (t .file)) (hz : d .z < le
       read-same (after₁ .file) (d .z) _ (subst (λ (k : ℕ). d .z < k) (sym (store-length (t .file) (d .y) (o .y))) hz)
       ∙ ap (λ (s : ℕ). f (facing₂ d after₁) s .y) taken
 
+  -- the selected bits of register z are those of the value r that f leaves there
+  given-low : (n r : ℕ) → (f (facing₂ d after₁) (o .y) .y ≡ merged n r (o .y)) → readAt (after₂ .file) (d .z) % 2 ^ n ≡ r % 2 ^ n
+  given-low n r e = ap (λ (v : ℕ). v % 2 ^ n) (given ∙ e) ∙ merged-low n r (o .y)
+
   elsewhere : (n passing : ℕ) → after₂ .core .q ≡ t .core .q → f (facing₂ d after₁) (o .y) .y / 2 ^ n ≡ passing / 2 ^ n → Elsewhere n (d .y) (d .z) passing t after₂
   elsewhere n passing hq ha =
       record {
@@ -73,6 +79,28 @@ module _ (d : Layout) (t : State) (hy : d .y < length (t .file)) (hz : d .z < le
         above = ap (λ (v : ℕ). v / 2 ^ n) given ∙ ha;
       }
 
+-- the digits of a byte code: two, four, six or eight, of four bits each
+module _ (d : Layout) (code : d .code < 4) where
+  four : bitsIn d ≡ 4 * digitsIn d
+  four = go (d .code)
+    where
+      go : (c : ℕ) → selected c ≡ 4 * (selected c / 4)
+      go zero = refl
+      go (suc c) = omega arith
+
+  two : 2 ≤ digitsIn d
+  two = let h : 8 ≤ bitsIn d = selected-bounds (d .code) code .0 in omega arith
+
+  eight : digitsIn d ≤ 8
+  eight = let h : bitsIn d ≤ 32 = selected-bounds (d .code) code .1 in omega arith
+
+  -- the same without the top digit
+  four-less : bitsIn d - 4 ≡ 4 * (digitsIn d - 1)
+  four-less = let h : bitsIn d ≡ 4 * digitsIn d = four in omega arith
+
+  next-place : (bitsIn d - 4) - 4 ≡ bitsIn d - 8
+  next-place = omega arith
+
 -- ---- additions
 -- an operation that is a sum of its operands
 record IsSum (o : DecimalOperation) : Type 0 where
@@ -80,47 +108,71 @@ record IsSum (o : DecimalOperation) : Type 0 where
   is : (x : Inputs) → performOf (o .opcode) x ≡ sum x (o .first x) (o .second x) (o .third x) (inverted x) (o .passing x)
   flagged : (x : Inputs) → Sound x → o .third x < 2
 
-module _ (o : DecimalOperation) (s : IsSum o) (d : Layout) (t : State) (h1 : 1 ≤ d .w) (h4 : d .w ≤ 4) (hy : d .y < length (t .file)) (hz : d .z < length (t .file))
-    (sound : Sound (facing o d t)) (v1 : Digits (digitsIn (d .w)) (o .first (facing o d t))) (v2 : Digits (digitsIn (d .w)) (o .second (facing o d t))) where
+module _ (o : DecimalOperation) (s : IsSum o) (d : Layout) (t : State) (hy : d .y < length (t .file)) (hz : d .z < length (t .file))
+    (sound : Sound (facing o d t)) (v : OfDigits o d t) where
   abbrev x : Inputs
   x = facing o d t
+
+  abbrev n : ℕ
+  n = bitsIn d
+
+  abbrev k : ℕ
+  k = digitsIn d
 
   abbrev out : Outputs
   out = sum x (o .first x) (o .second x) (o .third x) (s .inverted x) (o .passing x)
 
-  numbers : SumCorrected (digitsIn (d .w)) (o .third x) (o .first x) (o .second x)
-      (merged (bitsOf x) (merged (bitsOf x) (o .first x + o .second x + o .third x) (o .passing x) + 6 * nibbleCarries 8 (o .first x) (o .second x) (o .third x)) (merged (bitsOf x) (o .first x + o .second x + o .third x) (o .passing x)))
-      (bitOf (bitsOf x - 4) (nibbleCarries 8 (o .first x) (o .second x) (o .third x)))
-  numbers = sum-at (d .w) (bitsOf x) (o .first x) (o .second x) (o .third x) (o .passing x) h1 h4 (bits-of-bytes (d .w) h1 h4) (s .flagged x sound) v1 v2
+  abbrev carries : ℕ
+  carries = nibbleCarries 8 (o .first x) (o .second x) (o .third x)
+
+  abbrev Y : ℕ
+  Y = merged n (o .first x + o .second x + o .third x) (o .passing x)
+
+  numbers : SumCorrected k (o .third x) (o .first x) (o .second x) (merged n (Y + 6 * carries) Y) (bitOf (n - 4) carries)
+  numbers =
+      let h : 2 ≤ k = two d (sound .code) in
+      sum-at k n (o .first x) (o .second x) (o .third x) (o .passing x) (omega arith) (eight d (sound .code)) (four d (sound .code)) (s .flagged x sound) (v .0) (v .1)
+
+  -- the carry into the top digit
+  next : bitOf (n - 8) carries ≡ decimalCarry (k - 1) (o .first x) (o .second x) (o .third x)
+  next =
+      let h : 2 ≤ k = two d (sound .code) in
+      let h8 : k ≤ 8 = eight d (sound .code) in
+      ap (λ (i : ℕ). bitOf i carries) (sym (next-place d (sound .code)))
+      ∙ sum-at (k - 1) (n - 4) (o .first x) (o .second x) (o .third x) (o .passing x) (omega arith) (omega arith) (four-less d (sound .code)) (s .flagged x sound)
+      (digits-fewer (k - 1) k _ (omega arith) (v .0)) (digits-fewer (k - 1) k _ (omega arith) (v .1)) .carry
 
   abbrev end : State
   end = fixed d sumCorrect (left d out t)
 
-  run-is : execs (decimalWords (o .opcode) 0x48 d) t ≡ end
+  run-is : execs (sumWords o d) t ≡ end
   unfolding execs
   run-is = sum-fixed (d .side) d _ ∙ ap (fixed d sumCorrect) (calculated (o .opcode) d t ∙ ap (λ (p : Outputs). left d p t) (s .is x))
 
-  summed : DecimalSum (digitsIn (d .w)) (d .z) (o .first x) (o .second x) (o .third x) end
+  -- Z and N
+  of-digits : zeroSign n (readAt (left d out t .file) (d .y) + 6 * carries) (t .core .status) ≡ zeroSign (4 * k) (readAt (end .file) (d .z)) (t .core .status)
+  unfolding sum sumCorrect
+  of-digits =
+      let h : 2 ≤ k = two d (sound .code) in
+      zero-sign-low n _ _ (t .core .status) (omega arith)
+      (ap (λ (y : ℕ). (y + 6 * carries) % 2 ^ n) (taken d t hy hz out sumCorrect) ∙ sym (given-low d t hy hz out sumCorrect n (Y + 6 * carries) refl))
+      ∙ ap (λ (i : ℕ). zeroSign i (readAt (end .file) (d .z)) (t .core .status)) (four d (sound .code))
+
+  summed : DecimalSum k (d .z) (o .first x) (o .second x) (o .third x) t end
   unfolding sum sumCorrect
   summed =
       record {
-        digits = subst (λ (y : ℕ). Digits (digitsIn (d .w)) y) (sym (given d t hy hz out sumCorrect)) (numbers .valid);
-        sum = ap (λ (y : ℕ). value (digitsIn (d .w)) y) (given d t hy hz out sumCorrect) ∙ numbers .sum;
-        carry = numbers .carry;
+        digits = subst (λ (y : ℕ). Digits k y) (sym (given d t hy hz out sumCorrect)) (numbers .valid);
+        sum = ap (λ (y : ℕ). value k y) (given d t hy hz out sumCorrect) ∙ numbers .sum;
+        status = λ i. withNibbles carries (withV (xor (numbers .carry i) (next i)) (withC (numbers .carry i) (of-digits i)));
       }
 
-  summed-elsewhere : Elsewhere (bitsIn (d .w)) (d .y) (d .z) (o .passing x) t end
+  summed-elsewhere : Elsewhere n (d .y) (d .z) (o .passing x) t end
   unfolding sum sumCorrect
-  summed-elsewhere =
-      subst (λ (n : ℕ). Elsewhere n (d .y) (d .z) (o .passing x) t end) (bits-of-bytes (d .w) h1 h4)
-      (elsewhere d t hy hz out sumCorrect (bitsOf x) (o .passing x) refl (merged-high (bitsOf x) _ _ ∙ merged-high (bitsOf x) _ (o .passing x)))
+  summed-elsewhere = elsewhere d t hy hz out sumCorrect n (o .passing x) refl (merged-high n _ _ ∙ merged-high n _ (o .passing x))
 
-  sum-exact-of :
-      DecimalSum (digitsIn (d .w)) (d .z) (o .first x) (o .second x) (o .third x) (execs (decimalWords (o .opcode) 0x48 d) t)
-      × Elsewhere (bitsIn (d .w)) (d .y) (d .z) (o .passing x) t (execs (decimalWords (o .opcode) 0x48 d) t)
-  sum-exact-of =
-      subst (λ (u : State). DecimalSum (digitsIn (d .w)) (d .z) (o .first x) (o .second x) (o .third x) u × Elsewhere (bitsIn (d .w)) (d .y) (d .z) (o .passing x) t u)
-      (sym run-is) (summed, summed-elsewhere)
+  sum-exact-of : Summed o d t (execs (sumWords o d) t)
+  sum-exact-of = subst (Summed o d t) (sym run-is) (summed, summed-elsewhere)
 
 -- ---- subtractions
 -- an operation that is a difference of its operands; entering is the carry into the adder
@@ -131,11 +183,16 @@ record IsDifference (o : DecimalOperation) : Type 0 where
   flagged : (x : Inputs) → Sound x → entering x < 2
   a-word : (x : Inputs) → x .a < 2 ^ 32 → x .b < 2 ^ 32 → o .second x < 2 ^ 32
 
-module _ (o : DecimalOperation) (s : IsDifference o) (d : Layout) (t : State) (h1 : 1 ≤ d .w) (h4 : d .w ≤ 4) (hy : d .y < length (t .file)) (hz : d .z < length (t .file))
-    (sound : Sound (facing o d t)) (ha : readAt (t .file) (d .a) < 2 ^ 32) (hb : readAt (t .file) (d .b) < 2 ^ 32)
-    (v1 : Digits (digitsIn (d .w)) (o .first (facing o d t))) (v2 : Digits (digitsIn (d .w)) (o .second (facing o d t))) where
+module _ (o : DecimalOperation) (s : IsDifference o) (d : Layout) (t : State) (hy : d .y < length (t .file)) (hz : d .z < length (t .file))
+    (sound : Sound (facing o d t)) (ha : readAt (t .file) (d .a) < 2 ^ 32) (hb : readAt (t .file) (d .b) < 2 ^ 32) (v : OfDigits o d t) where
   abbrev xₛ : Inputs
   xₛ = facing o d t
+
+  abbrev nₛ : ℕ
+  nₛ = bitsIn d
+
+  abbrev kₛ : ℕ
+  kₛ = digitsIn d
 
   abbrev c : ℕ
   c = s .entering (facing o d t)
@@ -146,45 +203,68 @@ module _ (o : DecimalOperation) (s : IsDifference o) (d : Layout) (t : State) (h
   abbrev outₛ : Outputs
   outₛ = difference xₛ (o .first xₛ) (o .second xₛ) (s .entering xₛ) (o .passing xₛ)
 
-  numbersₛ : DiffCorrected (digitsIn (d .w)) (1 - c) (o .first xₛ) (o .second xₛ)
-      (merged (bitsOf xₛ) (merged (bitsOf xₛ) (o .first xₛ + notOf (o .second xₛ) + c) (o .passing xₛ) + notOf (6 * borrows) + 1) (merged (bitsOf xₛ) (o .first xₛ + notOf (o .second xₛ) + c) (o .passing xₛ)))
-      (bitOf (bitsOf xₛ - 4) borrows)
-  numbersₛ = difference-at (d .w) (bitsOf xₛ) (o .first xₛ) (o .second xₛ) c (o .passing xₛ) h1 h4 (bits-of-bytes (d .w) h1 h4) (s .flagged xₛ sound) v1 v2 (s .a-word xₛ ha hb)
+  abbrev Yₛ : ℕ
+  Yₛ = merged nₛ (o .first xₛ + notOf (o .second xₛ) + c) (o .passing xₛ)
+
+  numbersₛ : DiffCorrected kₛ (1 - c) (o .first xₛ) (o .second xₛ) (merged nₛ (Yₛ + notOf (6 * borrows) + 1) Yₛ) (bitOf (nₛ - 4) borrows)
+  numbersₛ =
+      let h : 2 ≤ kₛ = two d (sound .code) in
+      difference-at kₛ nₛ (o .first xₛ) (o .second xₛ) c (o .passing xₛ) (omega arith) (eight d (sound .code)) (four d (sound .code)) (s .flagged xₛ sound) (v .0) (v .1) (s .a-word xₛ ha hb)
+
+  -- the borrow out of the top digit, and the one from it
+  topₛ : bitOf (nₛ - 4) borrows ≡ decimalBorrow kₛ (o .first xₛ) (o .second xₛ) (1 - c)
+  topₛ = borrow-is kₛ (1 - c) (o .first xₛ) (o .second xₛ) _ _ (bit-lt (nₛ - 4) borrows) numbersₛ
+
+  nextₛ : bitOf (nₛ - 8) borrows ≡ decimalBorrow (kₛ - 1) (o .first xₛ) (o .second xₛ) (1 - c)
+  nextₛ =
+      let h : 2 ≤ kₛ = two d (sound .code) in
+      let h8 : kₛ ≤ 8 = eight d (sound .code) in
+      ap (λ (i : ℕ). bitOf i borrows) (sym (next-place d (sound .code)))
+      ∙ borrow-is (kₛ - 1) (1 - c) (o .first xₛ) (o .second xₛ) _ _ (bit-lt ((nₛ - 4) - 4) borrows)
+      (difference-at (kₛ - 1) (nₛ - 4) (o .first xₛ) (o .second xₛ) c (o .passing xₛ) (omega arith) (omega arith) (four-less d (sound .code)) (s .flagged xₛ sound)
+      (digits-fewer (kₛ - 1) kₛ _ (omega arith) (v .0)) (digits-fewer (kₛ - 1) kₛ _ (omega arith) (v .1)) (s .a-word xₛ ha hb))
 
   abbrev endₛ : State
   endₛ = fixed d diffCorrect (left d outₛ t)
 
-  run-isₛ : execs (decimalWords (o .opcode) 0x4a d) t ≡ endₛ
+  run-isₛ : execs (differenceWords o d) t ≡ endₛ
   unfolding execs
   run-isₛ = difference-fixed (d .side) d _ ∙ ap (fixed d diffCorrect) (calculated (o .opcode) d t ∙ ap (λ (p : Outputs). left d p t) (s .is xₛ))
 
-  taken-away : DecimalDifference (digitsIn (d .w)) (d .z) (o .first xₛ) (o .second xₛ) (1 - c) (d .borrow) endₛ
+  -- Z and N
+  of-digitsₛ :
+      zeroSign nₛ (readAt (left d outₛ t .file) (d .y) + notOf (6 * borrows) + 1) (t .core .status)
+      ≡ zeroSign (4 * kₛ) (readAt (endₛ .file) (d .z)) (t .core .status)
+  unfolding difference diffCorrect
+  of-digitsₛ =
+      let h : 2 ≤ kₛ = two d (sound .code) in
+      zero-sign-low nₛ _ _ (t .core .status) (omega arith)
+      (ap (λ (y : ℕ). (y + notOf (6 * borrows) + 1) % 2 ^ nₛ) (taken d t hy hz outₛ diffCorrect) ∙ sym (given-low d t hy hz outₛ diffCorrect nₛ (Yₛ + notOf (6 * borrows) + 1) refl))
+      ∙ ap (λ (i : ℕ). zeroSign i (readAt (endₛ .file) (d .z)) (t .core .status)) (four d (sound .code))
+
+  taken-away : DecimalDifference kₛ (d .z) (o .first xₛ) (o .second xₛ) (1 - c) (d .borrow) t endₛ
   unfolding difference diffCorrect
   taken-away =
       record {
-        digits = subst (λ (y : ℕ). Digits (digitsIn (d .w)) y) (sym (given d t hy hz outₛ diffCorrect)) (numbersₛ .valid);
-        difference = ap (λ (y : ℕ). value (digitsIn (d .w)) y) (given d t hy hz outₛ diffCorrect) ∙ numbersₛ .difference;
-        borrowed = bitOf (bitsOf xₛ - 4) borrows;
-        balance = ap (λ (y : ℕ). value (digitsIn (d .w)) y + value (digitsIn (d .w)) (o .second xₛ) + (1 - c)) (given d t hy hz outₛ diffCorrect) ∙ numbersₛ .balance;
-        carry = refl;
+        digits = subst (λ (y : ℕ). Digits kₛ y) (sym (given d t hy hz outₛ diffCorrect)) (numbersₛ .valid);
+        difference = ap (λ (y : ℕ). value kₛ y) (given d t hy hz outₛ diffCorrect) ∙ numbersₛ .difference;
+        balance =
+            ap (λ (y : ℕ). value kₛ y + value kₛ (o .second xₛ) + (1 - c)) (given d t hy hz outₛ diffCorrect) ∙ numbersₛ .balance
+            ∙ ap (λ (w : ℕ). value kₛ (o .first xₛ) + 10 ^ kₛ * w) topₛ;
+        status = λ i. withNibbles borrows (withV (xor (topₛ i) (nextₛ i)) (withC (1 - xor (topₛ i) (d .borrow)) (of-digitsₛ i)));
       }
 
-  taken-elsewhere : Elsewhere (bitsIn (d .w)) (d .y) (d .z) (o .passing xₛ) t endₛ
+  taken-elsewhere : Elsewhere nₛ (d .y) (d .z) (o .passing xₛ) t endₛ
   unfolding difference diffCorrect
-  taken-elsewhere =
-      subst (λ (n : ℕ). Elsewhere n (d .y) (d .z) (o .passing xₛ) t endₛ) (bits-of-bytes (d .w) h1 h4)
-      (elsewhere d t hy hz outₛ diffCorrect (bitsOf xₛ) (o .passing xₛ) refl (merged-high (bitsOf xₛ) _ _ ∙ merged-high (bitsOf xₛ) _ (o .passing xₛ)))
+  taken-elsewhere = elsewhere d t hy hz outₛ diffCorrect nₛ (o .passing xₛ) refl (merged-high nₛ _ _ ∙ merged-high nₛ _ (o .passing xₛ))
 
-  difference-exact-of :
-      DecimalDifference (digitsIn (d .w)) (d .z) (o .first xₛ) (o .second xₛ) (o .third xₛ) (d .borrow) (execs (decimalWords (o .opcode) 0x4a d) t)
-      × Elsewhere (bitsIn (d .w)) (d .y) (d .z) (o .passing xₛ) t (execs (decimalWords (o .opcode) 0x4a d) t)
+  difference-exact-of : TakenAway o d t (execs (differenceWords o d) t)
   difference-exact-of =
-      subst (λ (u : State). DecimalDifference (digitsIn (d .w)) (d .z) (o .first xₛ) (o .second xₛ) (o .third xₛ) (d .borrow) u × Elsewhere (bitsIn (d .w)) (d .y) (d .z) (o .passing xₛ) t u)
-      (sym run-isₛ)
-      (subst (λ (b : ℕ). DecimalDifference (digitsIn (d .w)) (d .z) (o .first xₛ) (o .second xₛ) b (d .borrow) endₛ) (s .third-is xₛ) taken-away, taken-elsewhere)
+      subst (TakenAway o d t) (sym run-isₛ)
+      (subst (λ (b : ℕ). DecimalDifference kₛ (d .z) (o .first xₛ) (o .second xₛ) b (d .borrow) t endₛ) (s .third-is xₛ) taken-away, taken-elsewhere)
 
 -- ---- the tables
-each : {P Q : DecimalOperation → Type 0} → ((o : DecimalOperation) → P o → Q o) → (os : List DecimalOperation) → Each P os → Each Q os
+pub each : {P Q : DecimalOperation → Type 0} → ((o : DecimalOperation) → P o → Q o) → (os : List DecimalOperation) → Each P os → Each Q os
 each f [] e = tt
 each f (o ∷ os) e = (f o (e .0), each f os (e .1))
 
@@ -270,8 +350,9 @@ differences-are = (
 )
 
 -- DECIMAL SUMS. Each addition of the table, followed by SUM-CORR of its Y with the same byte code, on one to four bytes, gives the decimal sum
--- of its operands and carry in where their selected nibbles are digits: the corrected word's digits are that sum modulo 10 to their number, and C
--- is the decimal carry; Q, the unselected bytes, and every register that neither word writes are as before.
+-- of its operands and carry in where their selected nibbles are digits: the corrected word's digits are that sum modulo 10 to their number, C is
+-- the decimal carry, and V, Z, N and the nibble bits are as `DecimalSum` has them; position, width, L, M and S, Q, the unselected bytes, and every
+-- register that neither word writes are as before.
 pub decimal-sums-exact : Each SumExact additions
 decimal-sums-exact = each (λ o s. sum-exact-of o s) additions sums-are
 

@@ -8,10 +8,10 @@ use native.Mathlib.Nat.{div-one, suc-add, mul-assoc}
 use lib.Dec.{ltb}
 use lib.Arith.{digits-div, digits-mod, mod-mul}
 use lib.Pow.{shr-shr, field, mod-mod-pow}
-use borrow.Author.Tests.{ltb-true, ltb-false}
+use borrow.Author.Tests.{ltb-true, ltb-false, lt-ltb, le-ltb}
 use Rattle.bits.specs.Bits.{flag, bitOf}
 use Rattle.arithmetic.specs.Nibbles.{nibbleCarries, nibbleBorrows}
-use Rattle.sequence.specs.Decimal.{Digits, value}
+use Rattle.sequence.specs.Decimal.{Digits, value, decimalBorrow}
 
 -- ---- tests
 pub data Test (p : Type 0) (t : Bool) : Type 0 where
@@ -141,6 +141,12 @@ unfolding value
 value-lt zero x v = omega arith
 value-lt (suc k) x v = omega (arith, v .0, value-lt k (x / 16) (v .1))
 
+-- some digits of k
+pub digits-fewer : (j k x : ℕ) → j ≤ k → Digits k x → Digits j x
+digits-fewer zero k x h v = tt
+digits-fewer (suc j) zero x h v = absurd (omega arith)
+digits-fewer (suc j) (suc k) x h v = (v .0, digits-fewer j k (x / 16) (omega arith) (v .1))
+
 -- ---- an addition and its correction
 pub record SumCorrected (k c A B Y C : ℕ) : Type 0 where
   pub valid : Digits k Y
@@ -202,6 +208,12 @@ pub record DiffCorrected (k c A B Y N : ℕ) : Type 0 where
   pub valid : Digits k Y
   pub difference : value k Y ≡ (value k A + (10 ^ k - (value k B + c))) % 10 ^ k
   pub balance : value k Y + value k B + c ≡ value k A + 10 ^ k * N
+
+-- what is borrowed
+pub borrow-is : (k c A B Y N : ℕ) → N < 2 → DiffCorrected k c A B Y N → N ≡ decimalBorrow k A B c
+borrow-is k c A B Y zero h d = sym (ap flag (le-ltb (value k A) (value k B + c) (omega (arith, d .balance))))
+borrow-is k c A B Y (suc zero) h d = sym (ap flag (lt-ltb (value k A) (value k B + c) (omega (arith, d .balance, value-lt k Y (d .valid)))))
+borrow-is k c A B Y (suc (suc N)) h d = absurd (omega arith)
 
 pub dif-end :
     (k c A B nc Y : ℕ) → c < 2 → B < 16 ^ suc k → Digits (suc k) B → 6 * nc < 16 ^ suc k → Dif (suc k) c A B nc →

@@ -6,8 +6,7 @@ use native.Mathlib.Nat.{mod-lt, add-mod, mod-add-mod}
 use native.Mathlib.Omega.{arith}
 use Rattle.bits.specs.Bits.{bitOf, merged, notOf}
 use Rattle.arithmetic.specs.Nibbles.{nibbleCarries, nibbleBorrows}
-use Rattle.sequence.specs.Sequences.{bitsIn}
-use Rattle.sequence.specs.Decimal.{Digits, digitsIn}
+use Rattle.sequence.specs.Decimal.{Digits}
 use Rattle.sequence.proofs.Lists.{merged-low, not-cut, cut-sum}
 use Rattle.sequence.proofs.DecimalNumbers.{SumCorrected, sum-end, sums, DiffCorrected, dif-end, difs, pow16-pos, pow16, digits-cut, digits-whole, value-cut, carries-cut, borrows-cut, carries-low, borrows-low, six-low, top-low}
 
@@ -133,41 +132,41 @@ module _ (k j n p r c u : ℕ) (pow : 2 ^ n ≡ 16 ^ suc k) (all : suc k + j ≡
           ∙ ap (λ (v : ℕ). (v + (16 ^ suc k - 6 * cutB)) % 16 ^ suc k) z-low
           ∙ mod-add-mod (p % 16 ^ suc k + (16 ^ suc k - (r % 16 ^ suc k + (1 - c)))) (16 ^ suc k) (16 ^ suc k - 6 * cutB)
 
--- ---- at w bytes, n being what their byte code selects
-module _ (w n p r c u : ℕ) (h1 : 1 ≤ w) (h4 : w ≤ 4) (bits : n ≡ bitsIn w) (hc : c < 2) (vp : Digits (digitsIn w) p) (vr : Digits (digitsIn w) r) where
-  top-is : n - 4 ≡ 4 * (digitsIn w - 1)
+-- ---- at k of the eight digits, in n bits
+module _ (k n p r c u : ℕ) (h1 : 1 ≤ k) (h8 : k ≤ 8) (bits : n ≡ 4 * k) (hc : c < 2) (vp : Digits k p) (vr : Digits k r) where
+  top-is : n - 4 ≡ 4 * (k - 1)
   top-is = omega arith
 
-  nibbles-is : suc (digitsIn w - 1) + (8 - digitsIn w) ≡ 8
+  nibbles-is : suc (k - 1) + (8 - k) ≡ 8
   nibbles-is = omega arith
 
-  digits-is : digitsIn w ≡ suc (digitsIn w - 1)
+  digits-is : k ≡ suc (k - 1)
   digits-is = omega arith
 
-  pow-is : 2 ^ n ≡ 16 ^ suc (digitsIn w - 1)
-  pow-is = ap (λ (x : ℕ). 2 ^ x) e ∙ pow16 (suc (digitsIn w - 1))
+  pow-is : 2 ^ n ≡ 16 ^ suc (k - 1)
+  pow-is = ap (λ (x : ℕ). 2 ^ x) e ∙ pow16 (suc (k - 1))
     where
-      e : n ≡ 4 * suc (digitsIn w - 1)
+      e : n ≡ 4 * suc (k - 1)
       e = omega arith
 
-  pub sum-at : SumCorrected (digitsIn w) c p r (merged n (merged n (p + r + c) u + 6 * nibbleCarries 8 p r c) (merged n (p + r + c) u)) (bitOf (n - 4) (nibbleCarries 8 p r c))
+  pub sum-at : SumCorrected k c p r (merged n (merged n (p + r + c) u + 6 * nibbleCarries 8 p r c) (merged n (p + r + c) u)) (bitOf (n - 4) (nibbleCarries 8 p r c))
   sum-at =
-      subst (λ (i : ℕ). SumCorrected (digitsIn w) c p r (merged n (merged n (p + r + c) u + 6 * nibbleCarries 8 p r c) (merged n (p + r + c) u)) (bitOf i (nibbleCarries 8 p r c))) (sym top-is)
-      (subst (λ (m : ℕ). SumCorrected (digitsIn w) c p r (merged n (merged n (p + r + c) u + 6 * nibbleCarries m p r c) (merged n (p + r + c) u)) (bitOf (4 * (digitsIn w - 1)) (nibbleCarries m p r c))) nibbles-is
+      subst (λ (i : ℕ). SumCorrected k c p r (merged n (merged n (p + r + c) u + 6 * nibbleCarries 8 p r c) (merged n (p + r + c) u)) (bitOf i (nibbleCarries 8 p r c))) (sym top-is)
+      (subst (λ (m : ℕ). SumCorrected k c p r (merged n (merged n (p + r + c) u + 6 * nibbleCarries m p r c) (merged n (p + r + c) u)) (bitOf (4 * (k - 1)) (nibbleCarries m p r c))) nibbles-is
       (subst
-      (λ (i : ℕ). SumCorrected i c p r (merged n (merged n (p + r + c) u + 6 * (nibbleCarries (suc (digitsIn w - 1) + (8 - digitsIn w)) p r c)) (merged n (p + r + c) u)) (bitOf (4 * (digitsIn w - 1)) (nibbleCarries (suc (digitsIn w - 1) + (8 - digitsIn w)) p r c)))
+      (λ (i : ℕ). SumCorrected i c p r (merged n (merged n (p + r + c) u + 6 * (nibbleCarries (suc (k - 1) + (8 - k)) p r c)) (merged n (p + r + c) u)) (bitOf (4 * (k - 1)) (nibbleCarries (suc (k - 1) + (8 - k)) p r c)))
       (sym digits-is)
-      (sum-numbers (digitsIn w - 1) (8 - digitsIn w) n p r c u pow-is hc (subst (λ (i : ℕ). Digits i p) digits-is vp) (subst (λ (i : ℕ). Digits i r) digits-is vr))))
+      (sum-numbers (k - 1) (8 - k) n p r c u pow-is hc (subst (λ (i : ℕ). Digits i p) digits-is vp) (subst (λ (i : ℕ). Digits i r) digits-is vr))))
 
   pub difference-at :
       r < 2 ^ 32 →
-      DiffCorrected (digitsIn w) (1 - c) p r
+      DiffCorrected k (1 - c) p r
       (merged n (merged n (p + notOf r + c) u + notOf (6 * nibbleBorrows 8 p r (1 - c)) + 1) (merged n (p + notOf r + c) u))
       (bitOf (n - 4) (nibbleBorrows 8 p r (1 - c)))
   difference-at hr =
-      subst (λ (i : ℕ). DiffCorrected (digitsIn w) (1 - c) p r (merged n (merged n (p + notOf r + c) u + notOf (6 * nibbleBorrows 8 p r (1 - c)) + 1) (merged n (p + notOf r + c) u)) (bitOf i (nibbleBorrows 8 p r (1 - c)))) (sym top-is)
-      (subst (λ (m : ℕ). DiffCorrected (digitsIn w) (1 - c) p r (merged n (merged n (p + notOf r + c) u + notOf (6 * nibbleBorrows m p r (1 - c)) + 1) (merged n (p + notOf r + c) u)) (bitOf (4 * (digitsIn w - 1)) (nibbleBorrows m p r (1 - c)))) nibbles-is
+      subst (λ (i : ℕ). DiffCorrected k (1 - c) p r (merged n (merged n (p + notOf r + c) u + notOf (6 * nibbleBorrows 8 p r (1 - c)) + 1) (merged n (p + notOf r + c) u)) (bitOf i (nibbleBorrows 8 p r (1 - c)))) (sym top-is)
+      (subst (λ (m : ℕ). DiffCorrected k (1 - c) p r (merged n (merged n (p + notOf r + c) u + notOf (6 * nibbleBorrows m p r (1 - c)) + 1) (merged n (p + notOf r + c) u)) (bitOf (4 * (k - 1)) (nibbleBorrows m p r (1 - c)))) nibbles-is
       (subst
-      (λ (i : ℕ). DiffCorrected i (1 - c) p r (merged n (merged n (p + notOf r + c) u + notOf (6 * (nibbleBorrows (suc (digitsIn w - 1) + (8 - digitsIn w)) p r (1 - c))) + 1) (merged n (p + notOf r + c) u)) (bitOf (4 * (digitsIn w - 1)) (nibbleBorrows (suc (digitsIn w - 1) + (8 - digitsIn w)) p r (1 - c))))
+      (λ (i : ℕ). DiffCorrected i (1 - c) p r (merged n (merged n (p + notOf r + c) u + notOf (6 * (nibbleBorrows (suc (k - 1) + (8 - k)) p r (1 - c))) + 1) (merged n (p + notOf r + c) u)) (bitOf (4 * (k - 1)) (nibbleBorrows (suc (k - 1) + (8 - k)) p r (1 - c))))
       (sym digits-is)
-      (difference-numbers (digitsIn w - 1) (8 - digitsIn w) n p r c u pow-is nibbles-is (omega arith) hc hr (subst (λ (i : ℕ). Digits i p) digits-is vp) (subst (λ (i : ℕ). Digits i r) digits-is vr))))
+      (difference-numbers (k - 1) (8 - k) n p r c u pow-is nibbles-is (omega arith) hc hr (subst (λ (i : ℕ). Digits i p) digits-is vp) (subst (λ (i : ℕ). Digits i r) digits-is vr))))

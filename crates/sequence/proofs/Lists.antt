@@ -8,11 +8,14 @@ use native.Mathlib.Nat.{mod-lt, mul-div-mul-left, mul-add-mod-self-right, add-mu
 use native.Mathlib.Omega.{arith}
 use lib.Pow.{pow-pos, pow-add, split, shr-lt, high, low, field, mod-mod-pow}
 use lib.ListN.{length}
-use Rattle.bits.specs.Bits.{selected, bitOf, signOf, merged, notOf}
+use lib.Dec.{eqb}
+use Rattle.bits.specs.Bits.{selected, flag, bitOf, signOf, zeroOf, merged, notOf}
 use Rattle.bits.proofs.BitByBit.{complement-parts}
+use Rattle.machine.specs.declared.Status.{Status}
 use Rattle.machine.specs.declared.Inputs.{Inputs}
 use Rattle.machine.specs.declared.Outputs.{Outputs}
-use Rattle.machine.specs.Inputs.{bitsOf}
+use Rattle.machine.specs.Status.{withN, withZ}
+use Rattle.machine.specs.Inputs.{bitsOf, zeroSign}
 use Rattle.chip.specs.Glossary.{performOf}
 use Rattle.chip.specs.Lists.{State, readAt, inputsOf, stepOf, execs}
 use Rattle.chip.proofs.Files.{store-length, read-same, read-other}
@@ -41,6 +44,14 @@ sign-top n b h =
     let p : 2 ^ n ≡ 2 * 2 ^ (n - 1) = ap (λ (k : ℕ). 2 ^ k) (sym e) ∙ pow-add 2 1 (n - 1) in
     sym (field b 1 (n - 1)) ∙ ap (λ (k : ℕ). b % 2 ^ k / 2 ^ (n - 1)) e
     ∙ sym (ap (λ (w : ℕ). 2 * (b % 2 ^ n) / w) p ∙ mul-div-mul-left (b % 2 ^ n) (2 ^ (n - 1)) (omega arith))
+
+-- Z and N look at the selected bits alone
+pub zero-sign-low : (n x y : ℕ) (s : Status) → 1 ≤ n → x % 2 ^ n ≡ y % 2 ^ n → zeroSign n x s ≡ zeroSign n y s
+unfolding zeroOf
+zero-sign-low n x y s h e = λ i. withZ (flag (eqb (e i) 0)) (withN (sign i) s)
+  where
+    sign : signOf n x ≡ signOf n y
+    sign = sign-top n x h ∙ ap (λ (v : ℕ). 2 * v / 2 ^ n) e ∙ sym (sign-top n y h)
 
 -- the selected bits of a complement
 pub not-cut : (n a : ℕ) → n ≤ 32 → a < 2 ^ 32 → notOf a % 2 ^ n ≡ (2 ^ n - 1) - a % 2 ^ n

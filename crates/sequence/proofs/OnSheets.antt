@@ -1,10 +1,12 @@
 -- The sequences come out exact as they stand in a sheet: running the sheet gives the product, the quotient and remainder, the decimal result.
 use mathlib.Core.Path.{_≡_, sym, ap, _∙_, subst}
 use mathlib.Core.Logic.{_≢_}
-use mathlib.Core.List.{List, _∷_}
+use mathlib.Core.List.{List, [], _∷_}
 use Prim.Native.Nat.{ℕ, _≤_, _<_}
 use lib.ListN.{length, drop}
 use Rattle.machine.specs.declared.Machine.{Machine}
+use Rattle.machine.specs.Inputs.{Sound}
+use Rattle.machine.proofs.Handed.{taken-good}
 use Rattle.reasons.specs.declared.Reason.the-variants.{Done}
 use Rattle.chip.specs.declared.Word.{Word}
 use Rattle.chip.specs.Lists.{State, execs}
@@ -14,14 +16,15 @@ use Rattle.sheet.proofs.Positions.{All, all-take, all-drop}
 use Rattle.sheet.proofs.Positions.All.{more}
 use Rattle.sheet.proofs.Table.{ready}
 use Rattle.run.specs.Run.{Ended, entering, ran}
-use Rattle.run.proofs.Laws.{each-ready, execs-sane}
+use Rattle.run.proofs.Laws.{each-ready, word-sound, execs-sane}
 use Rattle.run.proofs.Parts.{run-is, entering-sane, back}
 use Rattle.sequence.specs.Sequences.{Idle, bitsIn, wordsOf as listed, multiplyWords, divideWords}
 use Rattle.sequence.specs.Results.{register, Multiplied, Divided}
-use Rattle.sequence.specs.Decimal.{Layout, decimalWords}
-use Rattle.sequence.specs.OnSheets.{Stands, Accepted, handed, runOn}
+use Rattle.sequence.specs.Decimal.{DecimalOperation, additions, subtractions, Side, Side.at-A, Side.at-B, Layout, calculation, correctionAt, decimalWords, sumWords, differenceWords, facing, Summed, TakenAway, SumExact, DifferenceExact, Each}
+use Rattle.sequence.specs.OnSheets.{Stands, Accepted, handed, runOn, SumOnSheet, DifferenceOnSheet}
 use Rattle.sequence.proofs.Multiply.{multiply-exact}
 use Rattle.sequence.proofs.Divide.{divide-exact}
+use Rattle.sequence.proofs.Decimal.{each, decimal-sums-exact, decimal-differences-exact}
 
 module _ (s file : List ℕ) (m : Machine) (start : ℕ) (call : Accepted s file m start) where
   module _ (ws : List Word) (stands : Stands s start ws) where
@@ -43,12 +46,12 @@ module _ (s file : List ℕ) (m : Machine) (start : ℕ) (call : Accepted s file
     pub run-counts : (runOn s file m start ws .answer .reason ≡ Done) × (runOn s file m start ws .answer .place ≡ length ws)
     run-counts = (ap (λ (e : Ended). e .answer .reason) runs, ap (λ (e : Ended). e .answer .place) runs)
 
-  -- registers of a word that stands in the sheet are in the file
-  in-file : (w : Word) (ws : List Word) → Stands s start (w ∷ ws) → w .b < length file
-  in-file w ws stands = go (fit (w ∷ ws) stands)
+  -- the first of them: its registers are in the file
+  first-ready : (w : Word) (ws : List Word) → Stands s start (w ∷ ws) → WordReady (length file) w
+  first-ready w ws stands = go (fit (w ∷ ws) stands)
     where
-      go : All (WordReady (length file)) (w ∷ ws) → w .b < length file
-      go (more r a) = r .b
+      go : All (WordReady (length file)) (w ∷ ws) → WordReady (length file) w
+      go (more r a) = r
 
   -- MULTIPLY ON A SHEET. Where the multiply list of registers a and b stands in an accepted sheet, running it leaves the high half of the exact
   -- product in register b and the low half in Q, on one to four bytes, and all else as it was.
@@ -57,7 +60,7 @@ module _ (s file : List ℕ) (m : Machine) (start : ℕ) (call : Accepted s file
   unfolding listed
   sheet-multiplies w a b idle h1 h4 ab stands =
       subst (λ (t : State). Multiplied (bitsIn w) a b (entering file m) t) (sym (run-leaves (multiplyWords w a b idle) stands))
-      (multiply-exact w a b idle (entering file m) h1 h4 ab (in-file _ _ stands))
+      (multiply-exact w a b idle (entering file m) h1 h4 ab (first-ready _ _ stands .b))
 
   -- DIVIDE ON A SHEET. With the selected bytes of register b zero and those of register a not, Q gets the exact quotient and register b the
   -- remainder, below the divisor.
@@ -67,10 +70,36 @@ module _ (s file : List ℕ) (m : Machine) (start : ℕ) (call : Accepted s file
   unfolding listed
   sheet-divides w a b idle h1 h4 ab stands hd hb =
       subst (λ (t : State). Divided (bitsIn w) a b (entering file m) t) (sym (run-leaves (divideWords w a b idle) stands))
-      (divide-exact w a b idle (entering file m) h1 h4 ab (in-file _ _ stands) (call .registers a) hd hb)
+      (divide-exact w a b idle (entering file m) h1 h4 ab (first-ready _ _ stands .b) (call .registers a) hd hb)
 
-  -- DECIMAL ON A SHEET. Whatever is proved of the state after a calculation and its correction holds of the state that running them hands back:
-  -- `decimal-sums-exact` and `decimal-differences-exact` name it.
-  pub sheet-decimal : (opcode correction : ℕ) (d : Layout) (P : State → Type 0) → Stands s start (decimalWords opcode correction d)
-      → P (execs (decimalWords opcode correction d) (entering file m)) → P (handed (runOn s file m start (decimalWords opcode correction d)))
-  sheet-decimal opcode correction d P stands p = subst P (sym (run-leaves (decimalWords opcode correction d) stands)) p
+  -- the two words of a decimal operation stand soundly at the chip, on registers of the file
+  module _ (o : DecimalOperation) (correction : ℕ) (d : Layout) (stands : Stands s start (decimalWords (o .opcode) correction d)) where
+    calculates : WordReady (length file) (calculation (o .opcode) d)
+    calculates = first-ready (calculation (o .opcode) d) (correctionAt (d .side) correction d ∷ []) stands
+
+    sound : Sound (facing o d (entering file m))
+    sound = word-sound (length file) (calculation (o .opcode) d) (entering file m) calculates (taken-good m)
+
+    in-file-z : d .z < length file
+    in-file-z = go (d .side) (fit (decimalWords (o .opcode) correction d) stands)
+      where
+        go : (side : Side) → All (WordReady (length file)) (calculation (o .opcode) d ∷ correctionAt side correction d ∷ []) → d .z < length file
+        go at-A (more r (more q a)) = q .y
+        go at-B (more r (more q a)) = q .y
+
+  -- DECIMAL SUMS ON A SHEET. Where an addition of the table and its correction stand in an accepted sheet, and the selected nibbles of the operands
+  -- are digits, running the two leaves the decimal sum, with its carry in C and the status that goes with it, and all else as it was.
+  pub sheet-sums : Each (SumOnSheet s file m start) additions
+  sheet-sums =
+      each {P = SumExact} {Q = SumOnSheet s file m start}
+      (λ o exact d stands v. subst (Summed o d (entering file m)) (sym (run-leaves (sumWords o d) stands))
+      (exact d (entering file m) (calculates o 0x48 d stands .y) (in-file-z o 0x48 d stands) (sound o 0x48 d stands) v))
+      additions decimal-sums-exact
+
+  -- DECIMAL DIFFERENCES ON A SHEET. A subtraction and its correction likewise leave the decimal difference.
+  pub sheet-differences : Each (DifferenceOnSheet s file m start) subtractions
+  sheet-differences =
+      each {P = DifferenceExact} {Q = DifferenceOnSheet s file m start}
+      (λ o exact d stands v. subst (TakenAway o d (entering file m)) (sym (run-leaves (differenceWords o d) stands))
+      (exact d (entering file m) (calculates o 0x4a d stands .y) (in-file-z o 0x4a d stands) (sound o 0x4a d stands) (call .registers (d .a)) (call .registers (d .b)) v))
+      subtractions decimal-differences-exact

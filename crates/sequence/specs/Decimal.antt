@@ -1,16 +1,18 @@
--- Decimal sums and differences: an addition or a subtraction, then at once the matching correction of its Y, on w bytes, w from 1 to 4.
+-- Decimal sums and differences: an addition or a subtraction, then at once the matching correction of its Y, on one to four bytes.
 use mathlib.Core.Path.{_≡_}
 use mathlib.Core.Logic.{_≢_}
 use mathlib.Core.List.{List, [], _∷_}
-use Prim.Native.Nat.{ℕ, zero, suc, _+_, _-_, _*_, _/_, _%_, _^_, _≤_, _<_}
+use Prim.Native.Nat.{ℕ, zero, suc, _+_, _-_, _*_, _/_, _%_, _^_, _<_}
 use lib.ListN.{length}
-use Rattle.bits.specs.Bits.{xor}
+use lib.Dec.{ltb}
+use Rattle.bits.specs.Bits.{selected, flag, xor}
 use Rattle.machine.specs.declared.Inputs.{Inputs}
-use Rattle.machine.specs.Inputs.{carryIn, Sound}
+use Rattle.machine.specs.Status.{withC, withV, withNibbles}
+use Rattle.machine.specs.Inputs.{carryIn, zeroSign, Sound}
+use Rattle.arithmetic.specs.Nibbles.{nibbleCarries, nibbleBorrows}
 use Rattle.arithmetic.specs.Arithmetic.{borrowIn}
 use Rattle.chip.specs.declared.Word.{Word}
 use Rattle.chip.specs.Lists.{State, readAt, inputsOf, execs}
-use Rattle.sequence.specs.Sequences.{bitsIn, codeOf}
 
 -- ---- what decimal means
 -- each of the k low nibbles is a digit, 0 to 9
@@ -23,8 +25,12 @@ unfoldable pub value : ℕ → ℕ → ℕ
 value zero x = 0
 value (suc k) x = x % 16 + 10 * value k (x / 16)
 
-abbrev pub digitsIn : ℕ → ℕ
-digitsIn w = 2 * w
+-- the carry out of the k low digits of a + b + c, and the borrow out of those of a - b - c: 1 where more is taken away than there is
+abbrev pub decimalCarry : ℕ → ℕ → ℕ → ℕ → ℕ
+decimalCarry k a b c = (value k a + value k b + c) / 10 ^ k
+
+abbrev pub decimalBorrow : ℕ → ℕ → ℕ → ℕ → ℕ
+decimalBorrow k a b c = flag (ltb (value k a) (value k b + c))
 
 -- ---- the operations: the opcode, the two operands, the carry or borrow in, and the operand whose unselected bytes pass, as they stand at the
 -- chip
@@ -95,10 +101,10 @@ pub data Side : Type 0 where
   at-A : Side
   at-B : Side
 
--- w bytes; the first word reads registers a and b and writes Y to register y; the correction takes register y at one input and another register
--- at the other, and writes to register z; byte code and borrow switch are the same in both
+-- the first word reads registers a and b and writes Y to register y; the correction takes register y at one input and another register at the
+-- other, and writes to register z; byte code and borrow switch are the same in both
 pub record Layout : Type 0 where
-  pub w : ℕ
+  pub code : ℕ
   pub a : ℕ
   pub b : ℕ
   pub y : ℕ
@@ -113,7 +119,7 @@ abbrev pub wordWith : Layout → ℕ → ℕ → ℕ → ℕ → Fields → Word
 wordWith d opcode a b y f =
     record {
       opcode = opcode;
-      code = codeOf (d .w);
+      code = d .code;
       position = f .position;
       width = f .width;
       a = a;
@@ -137,11 +143,29 @@ correctionAt at-B opcode d = wordWith d (opcode + 1) (d .other) (d .y) (d .z) (d
 abbrev pub decimalWords : ℕ → ℕ → Layout → List Word
 decimalWords opcode correction d = calculation opcode d ∷ correctionAt (d .side) correction d ∷ []
 
+-- each operation with the correction that matches it
+abbrev pub sumWords : DecimalOperation → Layout → List Word
+sumWords o d = decimalWords (o .opcode) 0x48 d
+
+abbrev pub differenceWords : DecimalOperation → Layout → List Word
+differenceWords o d = decimalWords (o .opcode) 0x4a d
+
+-- the selected bits, and the digits in them
+abbrev pub bitsIn : Layout → ℕ
+bitsIn d = selected (d .code)
+
+abbrev pub digitsIn : Layout → ℕ
+digitsIn d = bitsIn d / 4
+
 -- what stands at the chip for the first word
 abbrev pub facing : DecimalOperation → Layout → State → Inputs
 facing o d t = inputsOf (calculation (o .opcode) d) t
 
--- ---- what comes out
+-- the selected nibbles of both operands are digits
+abbrev pub OfDigits : DecimalOperation → Layout → State → Type 0
+OfDigits o d t = Digits (digitsIn d) (o .first (facing o d t)) × Digits (digitsIn d) (o .second (facing o d t))
+
+-- ---- what comes out, from the state t before to the state u after
 -- Q and all registers but y and z are as before, and the unselected bytes of register z are those of the operand that passes
 pub record Elsewhere (n y z passing : ℕ) (t u : State) : Type 0 where
   pub registers : length (u .file) ≡ length (t .file)
@@ -149,37 +173,56 @@ pub record Elsewhere (n y z passing : ℕ) (t u : State) : Type 0 where
   pub q : u .core .q ≡ t .core .q
   pub above : readAt (u .file) z / 2 ^ n ≡ passing / 2 ^ n
 
--- register z holds the k digits of A + B + c modulo 10 ^ k, and C is the decimal carry
-pub record DecimalSum (k z A B c : ℕ) (u : State) : Type 0 where
+-- Register z holds the k digits of A + B + c modulo 10 ^ k. C is the decimal carry, and V that xor the decimal carry into the top digit; Z and N
+-- are of the k digits; the nibble bits are those of the addition, of the whole words. All else in the status register is as before.
+pub record DecimalSum (k z A B c : ℕ) (t u : State) : Type 0 where
   pub digits : Digits k (readAt (u .file) z)
   pub sum : value k (readAt (u .file) z) ≡ (value k A + value k B + c) % 10 ^ k
-  pub carry : u .core .status .c ≡ (value k A + value k B + c) / 10 ^ k
+  pub status :
+      u .core .status ≡
+      withNibbles (nibbleCarries 8 A B c)
+      (withV (xor (decimalCarry k A B c) (decimalCarry (k - 1) A B c))
+      (withC (decimalCarry k A B c)
+      (zeroSign (4 * k) (readAt (u .file) z) (t .core .status))))
 
--- register z holds the k digits of A - B - c modulo 10 ^ k. Where that is below zero, 1 is borrowed, of weight 10 ^ k; C is the complement of what
--- is borrowed, or that itself in borrow mode
-pub record DecimalDifference (k z A B c mode : ℕ) (u : State) : Type 0 where
+-- Register z holds the k digits of A - B - c modulo 10 ^ k: where that is below zero, 1 is borrowed, of weight 10 ^ k. C is the complement of what
+-- is borrowed, or that itself in borrow mode, and V what is borrowed xor the decimal borrow from the top digit; Z, N, the nibble bits and all else
+-- in the status register likewise.
+pub record DecimalDifference (k z A B c mode : ℕ) (t u : State) : Type 0 where
   pub digits : Digits k (readAt (u .file) z)
   pub difference : value k (readAt (u .file) z) ≡ (value k A + (10 ^ k - (value k B + c))) % 10 ^ k
-  pub borrowed : ℕ
-  pub balance : value k (readAt (u .file) z) + value k B + c ≡ value k A + 10 ^ k * borrowed
-  pub carry : u .core .status .c ≡ 1 - xor borrowed mode
+  pub balance : value k (readAt (u .file) z) + value k B + c ≡ value k A + 10 ^ k * decimalBorrow k A B c
+  pub status :
+      u .core .status ≡
+      withNibbles (nibbleBorrows 8 A B c)
+      (withV (xor (decimalBorrow k A B c) (decimalBorrow (k - 1) A B c))
+      (withC (1 - xor (decimalBorrow k A B c) mode)
+      (zeroSign (4 * k) (readAt (u .file) z) (t .core .status))))
+
+-- an addition and its correction
+abbrev pub Summed : DecimalOperation → Layout → State → State → Type 0
+Summed o d t u =
+    DecimalSum (digitsIn d) (d .z) (o .first (facing o d t)) (o .second (facing o d t)) (o .third (facing o d t)) t u
+    × Elsewhere (bitsIn d) (d .y) (d .z) (o .passing (facing o d t)) t u
+
+-- a subtraction and its correction
+abbrev pub TakenAway : DecimalOperation → Layout → State → State → Type 0
+TakenAway o d t u =
+    DecimalDifference (digitsIn d) (d .z) (o .first (facing o d t)) (o .second (facing o d t)) (o .third (facing o d t)) (d .borrow) t u
+    × Elsewhere (bitsIn d) (d .y) (d .z) (o .passing (facing o d t)) t u
 
 -- an addition and its correction come out exact, for every layout and state in which the operands' selected nibbles are digits
 abbrev pub SumExact : DecimalOperation → Type 0
 SumExact o =
-    (d : Layout) (t : State) → 1 ≤ d .w → d .w ≤ 4 → d .y < length (t .file) → d .z < length (t .file) → Sound (facing o d t) →
-    Digits (digitsIn (d .w)) (o .first (facing o d t)) → Digits (digitsIn (d .w)) (o .second (facing o d t)) →
-    DecimalSum (digitsIn (d .w)) (d .z) (o .first (facing o d t)) (o .second (facing o d t)) (o .third (facing o d t)) (execs (decimalWords (o .opcode) 0x48 d) t)
-    × Elsewhere (bitsIn (d .w)) (d .y) (d .z) (o .passing (facing o d t)) t (execs (decimalWords (o .opcode) 0x48 d) t)
+    (d : Layout) (t : State) → d .y < length (t .file) → d .z < length (t .file) → Sound (facing o d t) →
+    OfDigits o d t → Summed o d t (execs (sumWords o d) t)
 
--- a subtraction and its correction
+-- a subtraction and its correction likewise
 abbrev pub DifferenceExact : DecimalOperation → Type 0
 DifferenceExact o =
-    (d : Layout) (t : State) → 1 ≤ d .w → d .w ≤ 4 → d .y < length (t .file) → d .z < length (t .file) → Sound (facing o d t) →
+    (d : Layout) (t : State) → d .y < length (t .file) → d .z < length (t .file) → Sound (facing o d t) →
     readAt (t .file) (d .a) < 2 ^ 32 → readAt (t .file) (d .b) < 2 ^ 32 →
-    Digits (digitsIn (d .w)) (o .first (facing o d t)) → Digits (digitsIn (d .w)) (o .second (facing o d t)) →
-    DecimalDifference (digitsIn (d .w)) (d .z) (o .first (facing o d t)) (o .second (facing o d t)) (o .third (facing o d t)) (d .borrow) (execs (decimalWords (o .opcode) 0x4a d) t)
-    × Elsewhere (bitsIn (d .w)) (d .y) (d .z) (o .passing (facing o d t)) t (execs (decimalWords (o .opcode) 0x4a d) t)
+    OfDigits o d t → TakenAway o d t (execs (differenceWords o d) t)
 
 -- a claim for each operation of a list
 abbrev pub Each : (DecimalOperation → Type 0) → List DecimalOperation → Type 0

@@ -10,6 +10,7 @@ use Rattle.chip.specs.Lists.{State, readAt}
 use Rattle.sheet.specs.Sheet.{checkOf}
 use Rattle.sheet.specs.declared.Given.the-variants.{Number}
 use Rattle.run.specs.Run.{Ended, entering, executed, runOf}
+use Rattle.sequence.specs.Decimal.{DecimalOperation, Layout, sumWords, differenceWords, OfDigits, Summed, TakenAway}
 
 -- the executions of sheet s from `start` on are ws: they unpack from its bytes
 abbrev pub Stands : List ℕ → ℕ → List Word → Type 0
@@ -28,3 +29,13 @@ handed e = entering (e .file) (e .answer .machine)
 -- a run of just the words ws
 abbrev pub runOn : List ℕ → List ℕ → Machine → ℕ → List Word → Ended
 runOn s file m start ws = runOf s file m start (length ws)
+
+-- an addition and its correction come out exact where they stand in the sheet and the operands' selected nibbles are digits
+abbrev pub SumOnSheet : List ℕ → List ℕ → Machine → ℕ → DecimalOperation → Type 0
+SumOnSheet s file m start o =
+    (d : Layout) → Stands s start (sumWords o d) → OfDigits o d (entering file m) → Summed o d (entering file m) (handed (runOn s file m start (sumWords o d)))
+
+-- a subtraction and its correction likewise
+abbrev pub DifferenceOnSheet : List ℕ → List ℕ → Machine → ℕ → DecimalOperation → Type 0
+DifferenceOnSheet s file m start o =
+    (d : Layout) → Stands s start (differenceWords o d) → OfDigits o d (entering file m) → TakenAway o d (entering file m) (handed (runOn s file m start (differenceWords o d)))
