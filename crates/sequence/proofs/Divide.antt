@@ -6,22 +6,24 @@ use Prim.Native.Nat.{ℕ, suc, _+_, _-_, _*_, _/_, _%_, _^_, _≤_, _<_}
 use native.Mathlib.Nat.{mod-lt, pos-of-ne-zero, mul-add-mod-self-right, div-add-mod', mul-comm}
 use native.Mathlib.Omega.{arith}
 use lib.Dec.{eqb}
-use lib.Arith.{digits-mod}
+use lib.Arith.{digits-div, digits-mod}
 use lib.Pow.{pow-pos, pow-add, mod-mod-pow}
 use lib.ListN.{length}
 use Rattle.bits.specs.Bits.{selected, choose, flag, signOf, zeroOf, merged, notOf, carryOf}
 use Rattle.bits.proofs.BitByBit.{by-flag}
+use Rattle.machine.specs.declared.Status.{Status}
 use Rattle.machine.specs.declared.Inputs.{Inputs}
+use Rattle.machine.specs.Status.{withC, withN, withZ, withL, withM, withS}
 use Rattle.machine.specs.Inputs.{bitsOf}
 use Rattle.divide.specs.Steps.{formed, carryOut, upshifted, signQ, unsignedBit, extendedSign, remainderTest}
 use Rattle.divide.specs.Divide.{UDIVFIRST, UDIVSTEP, UDIVLAST, REMCORR}
 use Rattle.chip.specs.Glossary.{performOf}
 use Rattle.chip.specs.Lists.{State, readAt, inputsOf, stepOf, execs}
 use Rattle.sequence.specs.Sequences.{Idle, bitsIn, codeOf, wordOf, wordsOf, divideWords}
-use Rattle.sequence.specs.Results.{register, lowQ, Divided}
-use Rattle.sequence.proofs.Lists.{Work, view, before, after, Acts, acts-from, carried, carried-back, Reached, start, next, repeated, in-file, untouched-then, word-rest, word-y, merged-low, merged-high, bits-of-bytes, sign-top, not-cut, cut-sum}
+use Rattle.sequence.specs.Results.{register, lowQ, oddQ, Divided}
+use Rattle.sequence.proofs.Lists.{Work, view, before, after, Acts, acts-from, carried, carried-back, Reached, start, next, repeated, in-file, untouched-then, word-rest, word-status, word-y, merged-low, merged-high, bits-of-bytes, sign-top, not-cut, cut-sum}
 use Rattle.sequence.proofs.MultiplyNumbers.{top}
-use Rattle.sequence.proofs.DivideNumbers.{divSum, divF, divC, newBit, divFirst, divStep, divLast, Left, first-left, step-left, flag-m, Done, last-done, sign-is}
+use Rattle.sequence.proofs.DivideNumbers.{divSum, divF, divC, newBit, divFirst, divStep, divLast, Left, first-left, step-left, flag-m, Whole, Less, Done, last-done, sign-is}
 
 -- ---- numbers modulo W
 -- a value shifted up by one, by its remainder
@@ -62,6 +64,10 @@ module _ (n a b m : ℕ) (hn : n ≤ 32) (ha : a < 2 ^ 32) where
       taken = let h : a % 2 ^ n < 2 ^ n = mod-lt a (pow-pos n) in omega arith
 
 -- ---- the words
+-- they leave V, the nibble bits, position and width alone
+abbrev steady : Status → Status
+steady s = withC 0 (withN 0 (withM 0 (withZ 0 (withS 0 (withL 0 s)))))
+
 -- what is asked of the number of selected bits and of the divisor
 abbrev Fits : ℕ → ℕ → Type 0
 Fits n A = (1 ≤ n) × (n ≤ 32) × (A < 2 ^ 32)
@@ -132,41 +138,60 @@ first-sees x h = λ i. record { B = eB i; Q = eQ i; M = 1; S = 0 }
     eQ : merged (bitsOf x) (upshifted (x .q) 0) (x .q) % 2 ^ bitsOf x ≡ (2 * (x .q % 2 ^ bitsOf x) + 0) % 2 ^ bitsOf x
     eQ = merged-low (bitsOf x) _ (x .q) ∙ upshifted-cut (2 ^ bitsOf x) (x .q) 0
 
-first-acts : (n A : ℕ) → Fits n A → Acts n A 0x4f (λ s. Unit) (divFirst (2 ^ n) (A % 2 ^ n))
+first-acts : (n A : ℕ) → Fits n A → Acts steady n A 0x4f (λ s. Unit) (divFirst (2 ^ n) (A % 2 ^ n))
 unfolding performOf UDIVFIRST
-first-acts n A h = acts-from n A 0x4f divFirst Fits (λ s. Unit) h (λ x h g. first-sees x (h .0)) (λ x. merged-high (bitsOf x) _ (x .b)) (λ x. merged-high (bitsOf x) _ (x .q))
+first-acts n A h = acts-from steady n A 0x4f divFirst Fits (λ s. Unit) h (λ x h g. first-sees x (h .0)) (λ x. merged-high (bitsOf x) _ (x .b)) (λ x. merged-high (bitsOf x) _ (x .q)) (λ x. refl)
 
-step-acts : (n A : ℕ) → Fits n A → Acts n A 0x54 FlagM (divStep (2 ^ n) (A % 2 ^ n))
+step-acts : (n A : ℕ) → Fits n A → Acts steady n A 0x54 FlagM (divStep (2 ^ n) (A % 2 ^ n))
 unfolding performOf UDIVSTEP
-step-acts n A h = acts-from n A 0x54 divStep Fits FlagM h step-sees (λ x. merged-high (bitsOf x) _ (x .b)) (λ x. merged-high (bitsOf x) _ (x .q))
+step-acts n A h = acts-from steady n A 0x54 divStep Fits FlagM h step-sees (λ x. merged-high (bitsOf x) _ (x .b)) (λ x. merged-high (bitsOf x) _ (x .q)) (λ x. refl)
 
-last-acts : (n A : ℕ) → Fits n A → Acts n A 0x55 FlagM (divLast (2 ^ n) (A % 2 ^ n))
+last-acts : (n A : ℕ) → Fits n A → Acts steady n A 0x55 FlagM (divLast (2 ^ n) (A % 2 ^ n))
 unfolding performOf UDIVLAST
-last-acts n A h = acts-from n A 0x55 divLast Fits FlagM h last-sees (λ x. merged-high (bitsOf x) _ (x .b)) (λ x. merged-high (bitsOf x) _ (x .q))
+last-acts n A h = acts-from steady n A 0x55 divLast Fits FlagM h last-sees (λ x. merged-high (bitsOf x) _ (x .b)) (λ x. merged-high (bitsOf x) _ (x .q)) (λ x. refl)
 
 -- ---- REMCORR: B where the sign is 0, else B plus the divisor
 abbrev correctedB : Inputs → ℕ
 correctedB x = choose (remainderTest x) (x .b) (formed x (x .status .m))
 
 module _ (x : Inputs) (X : ℕ) (hD : 0 < x .a % 2 ^ bitsOf x) (done : Done (x .a % 2 ^ bitsOf x) X (2 ^ bitsOf x) (x .status .n) (x .status .z) (before (bitsOf x) x)) where
+  abbrev WholeB : Type 0
+  WholeB = Whole (x .a % 2 ^ bitsOf x) X (x .status .n) (x .status .z) (before (bitsOf x) x)
+
+  abbrev LessB : Type 0
+  LessB = Less (x .a % 2 ^ bitsOf x) X (2 ^ bitsOf x) (x .status .n) (x .status .z) (before (bitsOf x) x)
+
+  -- where the divisor is added back, the sum is the remainder and a carry
+  added-back : LessB → x .b % 2 ^ bitsOf x + x .a % 2 ^ bitsOf x + 0 ≡ 1 * 2 ^ bitsOf x + X % (x .a % 2 ^ bitsOf x)
+  added-back h = omega (arith, h .0)
+
+  small : X % (x .a % 2 ^ bitsOf x) < 2 ^ bitsOf x
+  small = omega (arith, mod-lt X hD, mod-lt (x .a) (pow-pos (bitsOf x)))
+
+  s : x .status .s ≡ 0
+  s = done .sign
+
   corrected : correctedB x % 2 ^ bitsOf x ≡ X % (x .a % 2 ^ bitsOf x)
   corrected = tell (done .end)
     where
-      s : x .status .s ≡ 0
-      s = done .sign
-
-      tell :
-          ((x .b % 2 ^ bitsOf x ≡ X % (x .a % 2 ^ bitsOf x)) × (x .status .n ≡ 0))
-          ⊎ ((x .b % 2 ^ bitsOf x + x .a % 2 ^ bitsOf x ≡ X % (x .a % 2 ^ bitsOf x) + 2 ^ bitsOf x) × (x .status .n ≡ 1) × (x .status .m ≡ 0) × (x .status .z ≡ 0))
-          → correctedB x % 2 ^ bitsOf x ≡ X % (x .a % 2 ^ bitsOf x)
+      tell : WholeB ⊎ LessB → correctedB x % 2 ^ bitsOf x ≡ X % (x .a % 2 ^ bitsOf x)
       tell (inl h) = rw (h .1, s) (h .0)
-      tell (inr h) = rw (h .1, s, h .2, h .3) (cut-sum (2 ^ bitsOf x) (x .b) (x .a) 0 0 ∙ ap (λ (v : ℕ). v % 2 ^ bitsOf x) whole ∙ digits-mod 1 {m = 2 ^ bitsOf x} {r = X % (x .a % 2 ^ bitsOf x)} below)
-        where
-          whole : x .b % 2 ^ bitsOf x + x .a % 2 ^ bitsOf x + 0 + 0 * 2 ^ bitsOf x ≡ 1 * 2 ^ bitsOf x + X % (x .a % 2 ^ bitsOf x)
-          whole = omega (arith, h .0)
+      tell (inr h) =
+          rw (h .1, s, h .2, h .3)
+          (cut-sum (2 ^ bitsOf x) (x .b) (x .a) 0 0 ∙ ap (λ (v : ℕ). v % 2 ^ bitsOf x) (omega (arith, added-back h)) ∙ digits-mod 1 {m = 2 ^ bitsOf x} {r = X % (x .a % 2 ^ bitsOf x)} small)
 
-          below : X % (x .a % 2 ^ bitsOf x) < 2 ^ bitsOf x
-          below = omega (arith, mod-lt X hD, mod-lt (x .a) (pow-pos (bitsOf x)))
+  -- C is N
+  carried-out : choose (remainderTest x) 0 (carryOut x (bitsOf x) (x .status .m)) ≡ x .status .n
+  unfolding carryOf
+  carried-out = tell (done .end)
+    where
+      tell : WholeB ⊎ LessB → choose (remainderTest x) 0 (carryOut x (bitsOf x) (x .status .m)) ≡ x .status .n
+      tell (inl h) = rw (h .1, s) refl
+      tell (inr h) = rw (h .1, s, h .2, h .3) (ap (λ (v : ℕ). v / 2 ^ bitsOf x) (added-back h) ∙ digits-div 1 small)
+
+  rem-status : performOf 0x58 x .status ≡ withC (x .status .n) (x .status)
+  unfolding performOf REMCORR
+  rem-status = ap (λ (c : ℕ). withC c (x .status)) carried-out
 
   rem-y : performOf 0x58 x .y % 2 ^ bitsOf x ≡ X % (x .a % 2 ^ bitsOf x)
   unfolding performOf REMCORR
@@ -183,7 +208,7 @@ rem-q x = refl
 -- ---- the last two words, from a state u in which no step is left
 module _ (n code a b : ℕ) (bits : selected code ≡ n) (ab : a ≢ b) (t : State) (hb : b < length (t .file))
     (fits : Fits n (readAt (t .file) a)) (hD : 0 < register n a t) (i j : Idle) (u : State)
-    (r : Reached n code a b (readAt (t .file) a) bits ab t refl hb (Left (2 ^ n) (register n a t) (lowQ n t) 0) u) where
+    (r : Reached steady n code a b (readAt (t .file) a) bits ab t refl hb (Left (2 ^ n) (register n a t) (lowQ n t) 0) u) where
   abbrev x₁ : Inputs
   x₁ = inputsOf (wordOf code a b 0x55 i) u
 
@@ -208,11 +233,11 @@ module _ (n code a b : ℕ) (bits : selected code ≡ n) (ab : a ≢ b) (t : Sta
   hm : u .core .status .m < 2
   hm = flag-m (2 ^ n) (register n a t) (lowQ n t) 0 (view n b u) (r .holds)
 
-  reached : Reached n code a b (readAt (t .file) a) bits ab t refl hb (λ s. s ≡ divLast (2 ^ n) (register n a t) (view n b u)) v
+  reached : Reached steady n code a b (readAt (t .file) a) bits ab t refl hb (λ s. s ≡ divLast (2 ^ n) (register n a t) (view n b u)) v
   reached =
-      next n code a b (readAt (t .file) a) bits ab t refl hb 0x55 FlagM (divLast (2 ^ n) (register n a t)) (last-acts n (readAt (t .file) a) fits)
+      next steady n code a b (readAt (t .file) a) bits ab t refl hb 0x55 FlagM (divLast (2 ^ n) (register n a t)) (last-acts n (readAt (t .file) a) fits)
       (λ s. s ≡ view n b u) (λ s. s ≡ divLast (2 ^ n) (register n a t) (view n b u))
-      (λ s e. subst FlagM (sym e) hm) (λ s e. ap (divLast (2 ^ n) (register n a t)) e) i u (record { rest = r .rest; holds = refl })
+      (λ s e. subst FlagM (sym e) hm) (λ s e. ap (divLast (2 ^ n) (register n a t)) e) i u (record { rest = r .rest; stays = r .stays; holds = refl })
 
   n-after : v .core .status .n ≡ F₁ / 2 ^ n
   unfolding stepOf
@@ -233,47 +258,93 @@ module _ (n code a b : ℕ) (bits : selected code ≡ n) (ab : a ≢ b) (t : Sta
   a₂ = reached .rest .others a ab
 
   in-file-v : b < length (v .file)
-  in-file-v = in-file n code a b (readAt (t .file) a) bits ab t refl hb v (reached .rest)
+  in-file-v = in-file steady n code a b (readAt (t .file) a) bits ab t refl hb v (reached .rest)
+
+  -- what REMCORR finds
+  done₂ : Done (x₂ .a % 2 ^ bitsOf x₂) (lowQ n t) (2 ^ bitsOf x₂) (v .core .status .n) (v .core .status .z) (before (bitsOf x₂) x₂)
+  done₂ = carried-back x₂ n (readAt (t .file) a) bits a₂ (λ k y. Done (y % 2 ^ k) (lowQ n t) (2 ^ k) (v .core .status .n) (v .core .status .z) (before k x₂)) done
+
+  hD₂ : 0 < x₂ .a % 2 ^ bitsOf x₂
+  hD₂ = carried-back x₂ n (readAt (t .file) a) bits a₂ (λ k y. 0 < y % 2 ^ k) hD
 
   remainder-is : register n b z ≡ lowQ n t % register n a t
   remainder-is =
       ap (λ (y : ℕ). y % 2 ^ n) (word-y n code a b bits j 0x58 v in-file-v)
       ∙ carried x₂ n (readAt (t .file) a) bits a₂ (λ k y. performOf 0x58 x₂ .y % 2 ^ k ≡ lowQ n t % (y % 2 ^ k))
-      (rem-y x₂ (lowQ n t) (carried-back x₂ n (readAt (t .file) a) bits a₂ (λ k y. 0 < y % 2 ^ k) hD)
-      (carried-back x₂ n (readAt (t .file) a) bits a₂ (λ k y. Done (y % 2 ^ k) (lowQ n t) (2 ^ k) (v .core .status .n) (v .core .status .z) (before k x₂)) done))
+      (rem-y x₂ (lowQ n t) hD₂ done₂)
 
   q-after : z .core .q ≡ v .core .q
   unfolding stepOf
   q-after = rem-q x₂
 
+  quotient-is : lowQ n z ≡ lowQ n t / register n a t
+  quotient-is = ap (λ (q : ℕ). q % 2 ^ n) q-after ∙ done .quotient
+
+  -- the flags that UDIVLAST leaves, by the quotient and the remainder
+  odd-is : v .core .status .m ≡ oddQ n z
+  odd-is = done .bit ∙ sym (ap (λ (q : ℕ). q % 2) quotient-is)
+
+  abbrev WholeV : Type 0
+  WholeV = Whole (register n a t) (lowQ n t) (v .core .status .n) (v .core .status .z) (view n b v)
+
+  abbrev LessV : Type 0
+  LessV = Less (register n a t) (lowQ n t) (2 ^ n) (v .core .status .n) (v .core .status .z) (view n b v)
+
+  sign-left : v .core .status .n ≡ 1 - oddQ n z
+  sign-left = tell (done .end)
+    where
+      tell : WholeV ⊎ LessV → v .core .status .n ≡ 1 - oddQ n z
+      tell (inl h) = omega (arith, h .1, h .2, odd-is)
+      tell (inr h) = omega (arith, h .1, h .2, odd-is)
+
+  zero-left : v .core .status .z ≡ choose (oddQ n z) 0 (zeroOf n (readAt (z .file) b))
+  unfolding zeroOf
+  zero-left = tell (done .end)
+    where
+      tell : WholeV ⊎ LessV → v .core .status .z ≡ choose (oddQ n z) 0 (flag (eqb (register n b z) 0))
+      tell (inl h) = h .3 ∙ sym (ap₂ (λ (o r : ℕ). choose o 0 (flag (eqb r 0))) (sym odd-is ∙ h .2) remainder-is)
+      tell (inr h) = h .3 ∙ sym (ap (λ (o : ℕ). choose o 0 (flag (eqb (register n b z) 0))) (sym odd-is ∙ h .2))
+
+  status-after : z .core .status ≡ withC (v .core .status .n) (v .core .status)
+  status-after = word-status n code a b bits j 0x58 v in-file-v ∙ rem-status x₂ (lowQ n t) hD₂ done₂
+
   divided : Divided n a b t z
   divided =
       record {
-        quotient = ap (λ (q : ℕ). q % 2 ^ n) q-after ∙ done .quotient;
+        quotient = quotient-is;
         remainder = remainder-is;
         below = subst (λ (y : ℕ). y < register n a t) (sym remainder-is) (mod-lt (lowQ n t) hD);
         rest =
             untouched-then n b t v z (reached .rest)
             (word-rest n code a b bits j 0x58 v in-file-v (subst (λ (k : ℕ). performOf 0x58 x₂ .y / 2 ^ k ≡ x₂ .b / 2 ^ k) bits (rem-above x₂)) (ap (λ (q : ℕ). q / 2 ^ n) (rem-q x₂)));
+        status =
+            status-after ∙ ap (λ (s : Status). withC (f .n) (withN (f .n) (withM (f .m) (withZ (f .z) (withS (f .s) (withL (f .l) s)))))) (reached .stays)
+            ∙ (λ i. withC (sign-left i) (withN (sign-left i) (withM (odd-is i) (withZ (zero-left i) (withS (done .sign i) (withL (link-left i) (t .core .status)))))));
       }
+    where
+      f : Status
+      f = v .core .status
+
+      link-left : v .core .status .l ≡ z .core .status .l
+      link-left = sym (ap (λ (s : Status). s .l) status-after)
 
 -- DIVIDE. On one to four bytes, with the dividend in Q, a divisor that is not 0 in register a, and b another register of the file whose
 -- selected bytes are 0: after one UDIVFIRST, n - 1 UDIVSTEP, one UDIVLAST and REMCORR, whatever the status register held before, Q holds the
--- quotient and register b the remainder, which is below the divisor; every other register and all unselected bytes are as before. Nothing is said
--- of the status register.
+-- quotient and register b the remainder, which is below the divisor; every other register and all unselected bytes are as before, and the status
+-- register is as `Divided` has it.
 pub divide-exact :
     (w a b : ℕ) (idle : ℕ → Idle) (t : State) → 1 ≤ w → w ≤ 4 → a ≢ b → b < length (t .file) →
     readAt (t .file) a < 2 ^ 32 → register (bitsIn w) a t ≢ 0 → register (bitsIn w) b t ≡ 0 →
     Divided (bitsIn w) a b t (execs (divideWords w a b idle) t)
 unfolding wordsOf execs
 divide-exact w a b idle t h1 h4 ab hb ha hd h0 =
-    repeated n code a b A bits ab t refl hb 0x54 FlagM (divStep W D) (step-acts n A fits) (Left W D X) (flag-m W D X) (step-left W D X hD) (0x55 ∷ 0x58 ∷ [])
+    repeated steady n code a b A bits ab t refl hb 0x54 FlagM (divStep W D) (step-acts n A fits) (Left W D X) (flag-m W D X) (step-left W D X hD) (0x55 ∷ 0x58 ∷ [])
     (Divided n a b t)
     (λ idle u r. divided n code a b bits ab t hb fits pos (idle 0) (idle 1) u r)
     (n - 1) (λ k. idle (suc k)) _
-    (next n code a b A bits ab t refl hb 0x4f (λ s. Unit) (divFirst W D) (first-acts n A fits) (λ s. (s .B ≡ 0) × (s .Q ≡ X)) (Left W D X (n - 1)) (λ s e. tt)
+    (next steady n code a b A bits ab t refl hb 0x4f (λ s. Unit) (divFirst W D) (first-acts n A fits) (λ s. (s .B ≡ 0) × (s .Q ≡ X)) (Left W D X (n - 1)) (λ s e. tt)
     (λ s e. first-left (n - 1) W D X pow pos (mod-lt (t .core .q) (pow-pos n)) s (e .0) (e .1)) (idle 0) t
-    (start n code a b A bits ab t refl hb (λ s. (s .B ≡ 0) × (s .Q ≡ X)) (h0, refl)))
+    (start steady n code a b A bits ab t refl hb (λ s. (s .B ≡ 0) × (s .Q ≡ X)) (h0, refl)))
   where
     n : ℕ
     n = bitsIn w

@@ -245,10 +245,17 @@ pub first-left : (k W D X : ℕ) → W ≡ 2 * 2 ^ k → 0 < D → X < W → (s 
 first-left k W D X hW hD hX s hB hQ = record { R = 2; positive = omega arith; whole = hW; inv = first-inv W D X (2 ^ k) hW (pow-pos k) hD hX s hB hQ }
 
 -- ---- UDIVLAST: the quotient is in Q; B is the remainder where the sign N is 0, else the remainder less the divisor
+abbrev pub Whole : ℕ → ℕ → ℕ → ℕ → Work → Type 0
+Whole D X N Z t = (t .B ≡ X % D) × (N ≡ 0) × (t .M ≡ 1) × (Z ≡ flag (eqb (X % D) 0))
+
+abbrev pub Less : ℕ → ℕ → ℕ → ℕ → ℕ → Work → Type 0
+Less D X W N Z t = (t .B + D ≡ X % D + W) × (N ≡ 1) × (t .M ≡ 0) × (Z ≡ 0)
+
 pub record Done (D X W N Z : ℕ) (t : Work) : Type 0 where
   pub quotient : t .Q ≡ X / D
   pub sign : t .S ≡ 0
-  pub end : ((t .B ≡ X % D) × (N ≡ 0)) ⊎ ((t .B + D ≡ X % D + W) × (N ≡ 1) × (t .M ≡ 0) × (Z ≡ 0))
+  pub bit : t .M ≡ X / D % 2
+  pub end : Whole D X N Z t ⊎ Less D X W N Z t
 
 zero-not : (x : ℕ) → 0 < x → flag (eqb x 0) ≡ 0
 zero-not x h = ap flag (ne-eqb x 0 (omega arith))
@@ -257,6 +264,7 @@ last-num : (W D X g q F : ℕ) (s : Work) → D < W → X < W → X ≡ (2 * q) 
 last-num W D X g q F s hD hX whole held o = record {
   quotient = mod-eq-of-lt (omega (arith, div-le-self X D, quotient)) ∙ (omega (arith, quotient));
   sign = refl;
+  bit = omega (arith, quotient);
   end = tell (o .end);
 }
   where
@@ -271,8 +279,8 @@ last-num W D X g q F s hD hX whole held o = record {
 
     tell :
         ((F % W ≡ o .r) × (F / W ≡ 0)) ⊎ ((F % W + D ≡ o .r + W) × (F / W ≡ 1))
-        → ((F % W ≡ X % D) × (F / W ≡ 0)) ⊎ ((F % W + D ≡ X % D + W) × (F / W ≡ 1) × (newBit W F ≡ 0) × (flag (eqb (F % W) 0) ≡ 0))
-    tell (inl h) = inl (h .0 ∙ sym remainder, h .1)
+        → Whole D X (F / W) (flag (eqb (F % W) 0)) (lasted W F s) ⊎ Less D X W (F / W) (flag (eqb (F % W) 0)) (lasted W F s)
+    tell (inl h) = inl (h .0 ∙ sym remainder, h .1, ap (λ (x : ℕ). 1 - x) (h .1), ap (λ (x : ℕ). flag (eqb x 0)) (h .0 ∙ sym remainder))
     tell (inr h) = inr (omega (arith, h .0, remainder), h .1, ap (λ (x : ℕ). 1 - x) (h .1), zero-not (F % W) (omega (arith, h .0)))
 
 last-inv : (W D X : ℕ) → D < W → X < W → (s : Work) → Inv W D X W 1 s → Done D X W (divF W D s / W) (flag (eqb (divF W D s % W) 0)) (divLast W D s)

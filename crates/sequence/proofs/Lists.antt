@@ -46,9 +46,12 @@ sign-top n b h =
     ∙ sym (ap (λ (w : ℕ). 2 * (b % 2 ^ n) / w) p ∙ mul-div-mul-left (b % 2 ^ n) (2 ^ (n - 1)) (omega arith))
 
 -- Z and N look at the selected bits alone
-pub zero-sign-low : (n x y : ℕ) (s : Status) → 1 ≤ n → x % 2 ^ n ≡ y % 2 ^ n → zeroSign n x s ≡ zeroSign n y s
+pub zero-low : (n x y : ℕ) → x % 2 ^ n ≡ y % 2 ^ n → zeroOf n x ≡ zeroOf n y
 unfolding zeroOf
-zero-sign-low n x y s h e = λ i. withZ (flag (eqb (e i) 0)) (withN (sign i) s)
+zero-low n x y e = ap (λ (v : ℕ). flag (eqb v 0)) e
+
+pub zero-sign-low : (n x y : ℕ) (s : Status) → 1 ≤ n → x % 2 ^ n ≡ y % 2 ^ n → zeroSign n x s ≡ zeroSign n y s
+zero-sign-low n x y s h e = λ i. withZ (zero-low n x y e i) (withN (sign i) s)
   where
     sign : signOf n x ≡ signOf n y
     sign = sign-top n x h ∙ ap (λ (v : ℕ). 2 * v / 2 ^ n) e ∙ sym (sign-top n y h)
@@ -99,11 +102,12 @@ abbrev pub after : ℕ → Outputs → Work
 after n o = record { B = o .y % 2 ^ n; Q = o .q % 2 ^ n; M = o .status .m; S = o .status .s }
 
 -- an opcode acts on the selected bits as f, where fine holds of them and A is the word at the A input; the unselected bits of B go to Y and
--- those of Q stay
-pub record Acts (n A opcode : ℕ) (fine : Work → Type 0) (f : Work → Work) : Type 0 where
+-- those of Q stay. Of the status register the steady parts stay: steady is the register with the parts at zero that a sequence works with
+pub record Acts (steady : Status → Status) (n A opcode : ℕ) (fine : Work → Type 0) (f : Work → Work) : Type 0 where
   pub sees : (x : Inputs) → bitsOf x ≡ n → x .a ≡ A → fine (before n x) → after n (performOf opcode x) ≡ f (before n x)
   pub above-y : (x : Inputs) → bitsOf x ≡ n → performOf opcode x .y / 2 ^ n ≡ x .b / 2 ^ n
   pub above-q : (x : Inputs) → bitsOf x ≡ n → performOf opcode x .q / 2 ^ n ≡ x .q / 2 ^ n
+  pub stays : (x : Inputs) → steady (performOf opcode x .status) ≡ steady (x .status)
 
 -- what holds at the number of selected bits and the word at the A input holds at n and A
 pub carried : (x : Inputs) (n A : ℕ) → bitsOf x ≡ n → x .a ≡ A → (P : ℕ → ℕ → Type 0) → P (bitsOf x) (x .a) → P n A
@@ -114,11 +118,12 @@ carried-back x n A e ea P p = subst (λ (k : ℕ). P k (x .a)) (sym e) (subst (�
 
 -- an opcode's action for every number of selected bits at once; ok is what is asked of it and of the word at the A input
 pub acts-from :
-    (n A opcode : ℕ) (f : ℕ → ℕ → Work → Work) (ok : ℕ → ℕ → Type 0) (fine : Work → Type 0) → ok n A →
+    (steady : Status → Status) (n A opcode : ℕ) (f : ℕ → ℕ → Work → Work) (ok : ℕ → ℕ → Type 0) (fine : Work → Type 0) → ok n A →
     ((x : Inputs) → ok (bitsOf x) (x .a) → fine (before (bitsOf x) x) → after (bitsOf x) (performOf opcode x) ≡ f (2 ^ bitsOf x) (x .a % 2 ^ bitsOf x) (before (bitsOf x) x)) →
     ((x : Inputs) → performOf opcode x .y / 2 ^ bitsOf x ≡ x .b / 2 ^ bitsOf x) → ((x : Inputs) → performOf opcode x .q / 2 ^ bitsOf x ≡ x .q / 2 ^ bitsOf x) →
-    Acts n A opcode fine (f (2 ^ n) (A % 2 ^ n))
-acts-from n A opcode f ok fine h sees hy hq =
+    ((x : Inputs) → steady (performOf opcode x .status) ≡ steady (x .status)) →
+    Acts steady n A opcode fine (f (2 ^ n) (A % 2 ^ n))
+acts-from steady n A opcode f ok fine h sees hy hq hs =
     record {
       sees =
           λ x e ea g.
@@ -126,6 +131,7 @@ acts-from n A opcode f ok fine h sees hy hq =
           (sees x (carried-back x n A e ea ok h) (carried-back x n A e ea (λ k v. fine (before k x)) g));
       above-y = λ x e. subst (λ (k : ℕ). performOf opcode x .y / 2 ^ k ≡ x .b / 2 ^ k) e (hy x);
       above-q = λ x e. subst (λ (k : ℕ). performOf opcode x .q / 2 ^ k ≡ x .q / 2 ^ k) e (hq x);
+      stays = hs;
     }
 
 pub untouched-then : (n b : ℕ) (t u v : State) → Untouched n b t u → Untouched n b u v → Untouched n b t v
@@ -152,6 +158,11 @@ module _ (n code a b : ℕ) (bits : selected code ≡ n) (i : Idle) (opcode : �
         above-q = hq;
       }
 
+  -- the status register afterwards
+  pub word-status : stepOf (wordOf code a b opcode i) t .core .status ≡ performOf opcode (inputsOf (wordOf code a b opcode i) t) .status
+  unfolding stepOf
+  word-status = refl
+
   -- register b afterwards is Y
   pub word-y : readAt (stepOf (wordOf code a b opcode i) t .file) b ≡ performOf opcode (inputsOf (wordOf code a b opcode i) t) .y
   unfolding stepOf
@@ -162,20 +173,21 @@ module _ (n code a b : ℕ) (bits : selected code ≡ n) (i : Idle) (opcode : �
   word-view = ap (λ (y : ℕ). record { B = y % 2 ^ n; Q = performOf opcode (inputsOf (wordOf code a b opcode i) t) .q % 2 ^ n; M = performOf opcode (inputsOf (wordOf code a b opcode i) t) .status .m; S = performOf opcode (inputsOf (wordOf code a b opcode i) t) .status .s }) (read-same (t .file) b _ hb)
 
 -- ---- a sequence from the state t₀, register a holding A
-module _ (n code a b A : ℕ) (bits : selected code ≡ n) (ab : a ≢ b) (t₀ : State) (hA : readAt (t₀ .file) a ≡ A) (hb : b < length (t₀ .file)) where
+module _ (steady : Status → Status) (n code a b A : ℕ) (bits : selected code ≡ n) (ab : a ≢ b) (t₀ : State) (hA : readAt (t₀ .file) a ≡ A) (hb : b < length (t₀ .file)) where
   -- a state on the way: P holds of the selected bits, all else is as it was
   pub record Reached (P : Work → Type 0) (t : State) : Type 0 where
     pub rest : Untouched n b t₀ t
+    pub stays : steady (t .core .status) ≡ steady (t₀ .core .status)
     pub holds : P (view n b t)
 
   pub start : (P : Work → Type 0) → P (view n b t₀) → Reached P t₀
-  start P h = record { rest = record { registers = refl; others = λ r e. refl; above-b = refl; above-q = refl }; holds = h }
+  start P h = record { rest = record { registers = refl; others = λ r e. refl; above-b = refl; above-q = refl }; stays = refl; holds = h }
 
   pub in-file : (t : State) → Untouched n b t₀ t → b < length (t .file)
   in-file t u = subst (λ (k : ℕ). b < k) (sym (u .registers)) hb
 
   pub next :
-      (opcode : ℕ) (fine : Work → Type 0) (f : Work → Work) → Acts n A opcode fine f →
+      (opcode : ℕ) (fine : Work → Type 0) (f : Work → Work) → Acts steady n A opcode fine f →
       (P R : Work → Type 0) → ((s : Work) → P s → fine s) → ((s : Work) → P s → R (f s)) →
       (i : Idle) (t : State) → Reached P t → Reached R (stepOf (wordOf code a b opcode i) t)
   next opcode fine f acts P R g h i t p =
@@ -184,6 +196,7 @@ module _ (n code a b A : ℕ) (bits : selected code ≡ n) (ab : a ≢ b) (t₀ 
             untouched-then n b t₀ t _ (p .rest)
             (word-rest n code a b bits i opcode t (in-file t (p .rest))
             (acts .above-y (inputsOf (wordOf code a b opcode i) t) bits) (acts .above-q (inputsOf (wordOf code a b opcode i) t) bits));
+        stays = ap steady (word-status n code a b bits i opcode t (in-file t (p .rest))) ∙ acts .stays (inputsOf (wordOf code a b opcode i) t) ∙ p .stays;
         holds =
             subst R
             (sym (word-view n code a b bits i opcode t (in-file t (p .rest)) ∙ acts .sees (inputsOf (wordOf code a b opcode i) t) bits (p .rest .others a ab ∙ hA) (g (view n b t) (p .holds))))
@@ -192,7 +205,7 @@ module _ (n code a b A : ℕ) (bits : selected code ≡ n) (ab : a ≢ b) (t₀ 
 
   -- a word repeated, P counting what is left of it, and then the others
   pub repeated :
-      (opcode : ℕ) (fine : Work → Type 0) (f : Work → Work) → Acts n A opcode fine f →
+      (opcode : ℕ) (fine : Work → Type 0) (f : Work → Work) → Acts steady n A opcode fine f →
       (P : ℕ → Work → Type 0) → ((k : ℕ) (s : Work) → P k s → fine s) → ((k : ℕ) (s : Work) → P (suc k) s → P k (f s)) →
       (opcodes : List ℕ) (End : State → Type 0) → ((idle : ℕ → Idle) (t : State) → Reached (P 0) t → End (execs (wordsOf code a b opcodes idle) t)) →
       (k : ℕ) (idle : ℕ → Idle) (t : State) → Reached (P k) t → End (execs (wordsOf code a b (times k opcode opcodes) idle) t)

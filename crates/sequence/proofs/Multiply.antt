@@ -1,5 +1,5 @@
 -- The multiply sequence comes out exact: each word acts on the selected bits as the step on numbers does.
-use mathlib.Core.Path.{_≡_, refl, sym, ap, _∙_, subst}
+use mathlib.Core.Path.{_≡_, refl, sym, ap, ap₂, _∙_, subst}
 use mathlib.Core.Logic.{_≢_}
 use mathlib.Core.List.{[], _∷_}
 use Prim.Native.Nat.{ℕ, zero, suc, _+_, _-_, _*_, _/_, _%_, _^_, _≤_, _<_}
@@ -7,16 +7,18 @@ use native.Mathlib.Nat.{mod-lt, mod-eq-of-lt, add-mod, mul-le-mul-right}
 use native.Mathlib.Omega.{arith}
 use lib.Pow.{pow-pos}
 use lib.ListN.{length}
-use Rattle.bits.specs.Bits.{selected, choose, bitOf, merged}
+use Rattle.bits.specs.Bits.{selected, choose, bitOf, signOf, zeroOf, merged}
+use Rattle.machine.specs.declared.Status.{Status}
 use Rattle.machine.specs.declared.Inputs.{Inputs}
+use Rattle.machine.specs.Status.{withZ, withM}
 use Rattle.machine.specs.Inputs.{bitsOf}
 use Rattle.multiply.specs.Multiply.{signExtended, booth, partial, shiftedBy2, firstStep, step, UMULLAST}
 use Rattle.multiply.proofs.Bounds.{extra, extra-one, quarter}
 use Rattle.chip.specs.Glossary.{performOf}
-use Rattle.chip.specs.Lists.{State, readAt, execs}
-use Rattle.sequence.specs.Sequences.{Idle, bitsIn, codeOf, wordsOf, multiplyWords}
+use Rattle.chip.specs.Lists.{State, readAt, inputsOf, stepOf, execs}
+use Rattle.sequence.specs.Sequences.{Idle, bitsIn, codeOf, wordOf, wordsOf, multiplyWords}
 use Rattle.sequence.specs.Results.{Multiplied}
-use Rattle.sequence.proofs.Lists.{Work, before, after, Acts, acts-from, Reached, start, next, repeated, merged-low, merged-high, bits-of-bytes, low-digit, second-bit, sign-top}
+use Rattle.sequence.proofs.Lists.{Work, before, after, Acts, acts-from, Reached, start, next, repeated, in-file, word-status, word-y, merged-low, merged-high, zero-low, bits-of-bytes, low-digit, second-bit, sign-top}
 use Rattle.sequence.proofs.MultiplyNumbers.{ext2, digit, shifted, mulStep, mulFirst, lastY, mulLast, Left, first-left, step-left, Product, last-product, pow4}
 
 -- ---- F*
@@ -69,48 +71,58 @@ unfolding partial
 partial-lt n a b q m = subst (λ (w : ℕ). (b + booth n a (q % 4) m) % w < 4 * 2 ^ n) (sym (extra n)) (mod-lt (b + booth n a (q % 4) m) (omega (arith, pow-pos n)))
 
 -- ---- the three words
-first-acts : (n A : ℕ) → 2 ≤ n → Acts n A 0x5b (λ s. Unit) (mulFirst (2 ^ n) (A % 2 ^ n))
+-- they change Z and M alone
+abbrev steady : Status → Status
+steady s = withZ 0 (withM 0 s)
+
+first-acts : (n A : ℕ) → 2 ≤ n → Acts steady n A 0x5b (λ s. Unit) (mulFirst (2 ^ n) (A % 2 ^ n))
 unfolding performOf firstStep mulFirst
 first-acts n A h =
-    acts-from n A 0x5b mulFirst (λ n A. 2 ≤ n) (λ s. Unit) h
+    acts-from steady n A 0x5b mulFirst (λ n A. 2 ≤ n) (λ s. Unit) h
     (λ x h g. shift-sees x (partial (bitsOf x) (x .a % 2 ^ bitsOf x) 0 (x .q) 0) h (partial-lt _ _ _ _ _) ∙ ap (shifted (2 ^ bitsOf x) (before (bitsOf x) x)) (partial-is (bitsOf x) (x .a % 2 ^ bitsOf x) 0 (x .q) 0 h))
-    (λ x. shift-above-y x _) (λ x. shift-above-q x _)
+    (λ x. shift-above-y x _) (λ x. shift-above-q x _) (λ x. refl)
 
-step-acts : (n A : ℕ) → 2 ≤ n → Acts n A 0x5c (λ s. Unit) (mulStep (2 ^ n) (A % 2 ^ n))
+step-acts : (n A : ℕ) → 2 ≤ n → Acts steady n A 0x5c (λ s. Unit) (mulStep (2 ^ n) (A % 2 ^ n))
 unfolding performOf step mulStep
 step-acts n A h =
-    acts-from n A 0x5c mulStep (λ n A. 2 ≤ n) (λ s. Unit) h
+    acts-from steady n A 0x5c mulStep (λ n A. 2 ≤ n) (λ s. Unit) h
     (λ x h g. shift-sees x (partial (bitsOf x) (x .a % 2 ^ bitsOf x) (signExtended (bitsOf x) (x .b)) (x .q) (x .status .m)) h (partial-lt _ _ _ _ _)
     ∙ ap (shifted (2 ^ bitsOf x) (before (bitsOf x) x))
     (partial-is (bitsOf x) (x .a % 2 ^ bitsOf x) (signExtended (bitsOf x) (x .b)) (x .q) (x .status .m) h
     ∙ ap (λ (v : ℕ). (v + digit (2 ^ bitsOf x) (x .a % 2 ^ bitsOf x) (x .q % 2 ^ bitsOf x % 4) (x .status .m)) % (4 * 2 ^ bitsOf x)) (extended-is (bitsOf x) (x .b) (omega arith))))
-    (λ x. shift-above-y x _) (λ x. shift-above-q x _)
+    (λ x. shift-above-y x _) (λ x. shift-above-q x _) (λ x. refl)
 
 last-is : (W a b m : ℕ) → choose m b (b + a) % W ≡ lastY W (a % W) (b % W) m
 last-is W a b zero = refl
 last-is W a b (suc m) = add-mod b a W
 
-last-acts : (n A : ℕ) → 2 ≤ n → Acts n A 0x5d (λ s. Unit) (mulLast (2 ^ n) (A % 2 ^ n))
+last-acts : (n A : ℕ) → 2 ≤ n → Acts steady n A 0x5d (λ s. Unit) (mulLast (2 ^ n) (A % 2 ^ n))
 unfolding performOf UMULLAST mulLast
 last-acts n A h =
-    acts-from n A 0x5d mulLast (λ n A. 2 ≤ n) (λ s. Unit) h
+    acts-from steady n A 0x5d mulLast (λ n A. 2 ≤ n) (λ s. Unit) h
     (λ x h g. ap (λ (y : ℕ). record { B = y; Q = x .q % 2 ^ bitsOf x; M = x .status .m; S = x .status .s }) (merged-low (bitsOf x) _ (x .b) ∙ last-is (2 ^ bitsOf x) (x .a) (x .b) (x .status .m)))
-    (λ x. merged-high (bitsOf x) _ (x .b)) (λ x. refl)
+    (λ x. merged-high (bitsOf x) _ (x .b)) (λ x. refl) (λ x. refl)
+
+-- Z is of the Y that UMULLAST leaves
+last-z : (x : Inputs) → performOf 0x5d x .status .z ≡ zeroOf (bitsOf x) (performOf 0x5d x .y)
+unfolding performOf UMULLAST
+last-z x = zero-low (bitsOf x) _ _ (sym (merged-low (bitsOf x) _ (x .b)))
 
 -- MULTIPLY. On one to four bytes, with the multiplicand in register a, the multiplier in Q, and b another register of the file: after
 -- one UMULFIRST, n / 2 - 1 UMULSTEP and one UMULLAST, whatever register b and the status register held before, register b holds the high half
--- and Q the low half of the exact product; every other register and all unselected bytes are as before. Nothing is said of the status register.
+-- and Q the low half of the exact product; every other register and all unselected bytes are as before. Z tells whether the high half is zero, M is
+-- the multiplier's top bit, and the rest of the status register is as before.
 pub multiply-exact :
     (w a b : ℕ) (idle : ℕ → Idle) (t : State) → 1 ≤ w → w ≤ 4 → a ≢ b → b < length (t .file) →
     Multiplied (bitsIn w) a b t (execs (multiplyWords w a b idle) t)
 unfolding wordsOf execs
 multiply-exact w a b idle t h1 h4 ab hb =
-    repeated n code a b A bits ab t refl hb 0x5c (λ s. Unit) (mulStep W (A % W)) (step-acts n A two) (Left W (A % W) (t .core .q % W)) (λ k s l. tt) (step-left W (A % W) (t .core .q % W) hA) (0x5d ∷ [])
+    repeated steady n code a b A bits ab t refl hb 0x5c (λ s. Unit) (mulStep W (A % W)) (step-acts n A two) (Left W (A % W) (t .core .q % W)) (λ k s l. tt) (step-left W (A % W) (t .core .q % W) hA) (0x5d ∷ [])
     (Multiplied n a b t)
-    (λ idle u r. done u _ (next n code a b A bits ab t refl hb 0x5d (λ s. Unit) (mulLast W (A % W)) (last-acts n A two) (Left W (A % W) (t .core .q % W) 0) (Product W (A % W) (t .core .q % W)) (λ s l. tt) (last-product W (A % W) (t .core .q % W) hA) (idle 0) u r))
+    (λ idle u r. done (idle 0) u (in-file steady n code a b A bits ab t refl hb u (r .rest)) (next steady n code a b A bits ab t refl hb 0x5d (λ s. Unit) (mulLast W (A % W)) (last-acts n A two) (Left W (A % W) (t .core .q % W) 0) (Product W (A % W) (t .core .q % W)) (λ s l. tt) (last-product W (A % W) (t .core .q % W) hA) (idle 0) u r))
     (n / 2 - 1) (λ k. idle (suc k)) _
-    (next n code a b A bits ab t refl hb 0x5b (λ s. Unit) (mulFirst W (A % W)) (first-acts n A two) (λ s. s .Q ≡ t .core .q % W) (Left W (A % W) (t .core .q % W) (n / 2 - 1)) (λ s e. tt) first (idle 0) t
-    (start n code a b A bits ab t refl hb (λ s. s .Q ≡ t .core .q % W) refl))
+    (next steady n code a b A bits ab t refl hb 0x5b (λ s. Unit) (mulFirst W (A % W)) (first-acts n A two) (λ s. s .Q ≡ t .core .q % W) (Left W (A % W) (t .core .q % W) (n / 2 - 1)) (λ s e. tt) first (idle 0) t
+    (start steady n code a b A bits ab t refl hb (λ s. s .Q ≡ t .core .q % W) refl))
   where
     n : ℕ
     n = bitsIn w
@@ -139,5 +151,24 @@ multiply-exact w a b idle t h1 h4 ab hb =
     first : (s : Work) → s .Q ≡ t .core .q % W → Left W (A % W) (t .core .q % W) (n / 2 - 1) (mulFirst W (A % W) s)
     first s e = subst (λ (q : ℕ). Left W (A % W) q (n / 2 - 1) (mulFirst W (A % W) s)) e (first-left (n / 2 - 1) W (A % W) s pow hA (subst (λ (q : ℕ). q < W) (sym e) (mod-lt (t .core .q) (pow-pos n))))
 
-    done : (u v : State) → Reached n code a b A bits ab t refl hb (Product W (A % W) (t .core .q % W)) v → Multiplied n a b t v
-    done u v r = record { high = r .holds .high; low = r .holds .low; rest = r .rest }
+    lasted : Idle → State → State
+    lasted i u = stepOf (wordOf code a b 0x5d i) u
+
+    zero : (i : Idle) (u : State) → b < length (u .file) → lasted i u .core .status .z ≡ zeroOf n (readAt (lasted i u .file) b)
+    zero i u h =
+        let x : Inputs = inputsOf (wordOf code a b 0x5d i) u in
+        ap (λ (s : Status). s .z) (word-status n code a b bits i 0x5d u h)
+        ∙ subst (λ (k : ℕ). performOf 0x5d x .status .z ≡ zeroOf k (performOf 0x5d x .y)) bits (last-z x)
+        ∙ ap (zeroOf n) (sym (word-y n code a b bits i 0x5d u h))
+
+    done : (i : Idle) (u : State) → b < length (u .file) → Reached steady n code a b A bits ab t refl hb (Product W (A % W) (t .core .q % W)) (lasted i u) → Multiplied n a b t (lasted i u)
+    done i u h r =
+        let bit : lasted i u .core .status .m ≡ signOf n (t .core .q) = r .holds .bit ∙ sym (sign-top n (t .core .q) (omega arith)) in
+        record {
+          high = r .holds .high;
+          low = r .holds .low;
+          rest = r .rest;
+          status =
+              ap (λ (s : Status). withZ (lasted i u .core .status .z) (withM (lasted i u .core .status .m) s)) (r .stays)
+              ∙ ap₂ (λ (z m : ℕ). withZ z (withM m (t .core .status))) (zero i u h) bit;
+        }

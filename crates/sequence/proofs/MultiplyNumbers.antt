@@ -140,25 +140,40 @@ pub record Inv (W A Q₀ R T : ℕ) (s : Work) : Type 0 where
   prod : A * q ≡ R * U + low
   low< : low < R
   rest< : rest < T
+  q< : q < R
+  bit : s .M ≡ top R q
+
+-- the top bit of the digits used up is that of the last of them
+top-digit : (R q d : ℕ) → q < R → d < 4 → top (4 * R) (q + d * R) ≡ d / 2
+top-digit R q zero hq hd = ap (λ (x : ℕ). x / (4 * R)) (omega arith) ∙ digits-div 0 {m = 4 * R} {r = 2 * q} (omega arith)
+top-digit R q (suc zero) hq hd = ap (λ (x : ℕ). x / (4 * R)) (omega arith) ∙ digits-div 0 {m = 4 * R} {r = 2 * (q + R)} (omega arith)
+top-digit R q (suc (suc zero)) hq hd = ap (λ (x : ℕ). x / (4 * R)) (omega arith) ∙ digits-div 1 {m = 4 * R} {r = 2 * q} (omega arith)
+top-digit R q (suc (suc (suc zero))) hq hd = ap (λ (x : ℕ). x / (4 * R)) (omega arith) ∙ digits-div 1 {m = 4 * R} {r = 2 * (q + R)} (omega arith)
+top-digit R q (suc (suc (suc (suc d)))) hq hd = absurd (omega arith)
 
 -- the shift, from F and its digits
 shift-inv :
     (W A Q₀ R T U low rest d q F : ℕ) (s : Work) →
     W ≡ R * (4 * T) → Q₀ ≡ (4 * rest + d) * R + q → s .Q ≡ low * (4 * T) + (4 * rest + d) → A * q ≡ R * U + low → low < R →
-    4 * rest + d < 4 * T → d < 4 → Out W A (U + d * A) (d / 2) F → Inv W A Q₀ (4 * R) T (shifted W s F)
-shift-inv W A Q₀ R T U low rest d q F s hW full held prod low< rest< hd o = record {
+    4 * rest + d < 4 * T → q < R → d < 4 → Out W A (U + d * A) (d / 2) F → Inv W A Q₀ (4 * R) T (shifted W s F)
+shift-inv W A Q₀ R T U low rest d q F s hW full held prod low< rest< q< hd o = record {
   U = o .U;
   low = low + F % 4 * R;
   rest = rest;
   q = q + d * R;
-  rel = subst (λ (m : ℕ). Rel W A m (o .U) (F / 4)) (omega arith) (o .rel);
+  rel = subst (λ (m : ℕ). Rel W A m (o .U) (F / 4)) (sym moved) (o .rel);
   full = omega arith;
   held = omega (arith, ap (λ (x : ℕ). F % 4 * x) w4);
   prod = omega (arith, ap (λ (x : ℕ). R * x) (o .eq));
   low< = omega (arith, le3);
   rest< = omega arith;
+  q< = omega (arith, mul-le-mul-right {m = d} {n = 3} R (omega arith));
+  bit = moved ∙ sym (top-digit R q d q< hd);
 }
   where
+    moved : s .Q / 2 % 2 ≡ d / 2
+    moved = omega arith
+
     w4 : W / 4 ≡ R * T
     w4 = omega arith
 
@@ -169,7 +184,7 @@ pub step-inv : (W A Q₀ R T : ℕ) → A < W → W ≡ R * (4 * T) → (s : Wor
 unfolding mulStep
 step-inv W A Q₀ R T hA hW s i =
     shift-inv W A Q₀ R T (i .U) (i .low) (i .rest / 4) (i .rest % 4) (i .q) ((ext2 W (s .B) + digit W A (s .Q % 4) (s .M)) % (4 * W)) s hW
-    (rw div-add-mod (i .full)) (rw div-add-mod (i .held)) (i .prod) (i .low<) (rw div-add-mod (i .rest<)) (omega arith)
+    (rw div-add-mod (i .full)) (rw div-add-mod (i .held)) (i .prod) (i .low<) (rw div-add-mod (i .rest<)) (i .q<) (omega arith)
     (subst (λ (x : ℕ). Out W A (i .U + i .rest % 4 * A) (i .rest % 4 / 2) ((ext2 W (s .B) + digit W A x (s .M)) % (4 * W))) (sym qd) (core W A (s .M) (i .U) (s .B) hA (i .rel) (i .rest % 4) (omega arith)))
   where
     qd : s .Q % 4 ≡ i .rest % 4
@@ -216,6 +231,8 @@ begin-inv W A s h =
       prod = omega arith;
       low< = omega arith;
       rest< = h;
+      q< = omega arith;
+      bit = refl;
     }
 
 pub first-left : (k W A : ℕ) (s : Work) → W ≡ 4 ^ suc k → A < W → s .Q < W → Left W A (s .Q) k (mulFirst W A s)
@@ -243,16 +260,18 @@ last-y W A (suc m) U B hA (zer hm hU hB) = ap (λ (x : ℕ). x % W) e ∙ digits
     e : B + A ≡ 0 * W + U
     e = omega arith
 
--- the product, once no step is left
+-- the product, once no step is left, and the multiplier's top bit
 pub record Product (W A Q : ℕ) (s : Work) : Type 0 where
   pub high : s .B ≡ A * Q / W
   pub low : s .Q ≡ A * Q % W
+  pub bit : s .M ≡ top W Q
 
 last-inv : (W A Q : ℕ) → A < W → (s : Work) → Inv W A Q W 1 s → Product W A Q (mulLast W A s)
 unfolding mulLast
 last-inv W A Q hA s i = record {
   high = last-y W A (s .M) (i .U) (s .B) hA (i .rel) ∙ sym (ap (λ (x : ℕ). x / W) whole ∙ digits-div (i .U) (i .low<));
   low = omega arith ∙ sym (ap (λ (x : ℕ). x % W) whole ∙ digits-mod (i .U) (i .low<));
+  bit = i .bit ∙ ap (top W) (sym q0);
 }
   where
     r0 : i .rest ≡ 0
