@@ -1,4 +1,5 @@
 -- These proofs assume nothing.
+pub mod Counterexamples
 pub mod Lists
 pub mod MultiplyNumbers
 pub mod Multiply

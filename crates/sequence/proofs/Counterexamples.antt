@@ -1,0 +1,79 @@
+-- The lists at one byte, worked out by the checker from the definitions: the lists that must come out exact do, and lists that differ from them in one
+-- word do not, so that no word of them can be left out or exchanged.
+use mathlib.Core.Path.{_≡_, refl, ap}
+use mathlib.Core.Logic.{_≢_}
+use mathlib.Core.List.{List, [], _∷_}
+use Prim.Native.Nat.{ℕ, _-_, _/_}
+use native.Mathlib.Omega.{arith}
+use Rattle.bits.specs.Bits.{zeroOf, merged, carryOf, overflowOf}
+use Rattle.machine.specs.Status.{spreadOut, loaded}
+use Rattle.multiply.specs.Multiply.{booth, partial, firstStep, step, UMULLAST}
+use Rattle.divide.specs.Divide.{UDIVFIRST, UDIVSTEP, UDIVLAST, REMCORR, QUOCORR}
+use Rattle.chip.specs.Glossary.{performOf}
+use Rattle.chip.specs.Lists.{State, state, readAt, storeAt, stepOf, execs}
+use Rattle.sequence.specs.Sequences.{Idle, wordsOf, times, bitsIn, codeOf, multiplyOpcodes, divideOpcodes}
+
+-- words with the given opcodes at one byte, with the given register 0 at A and Q, register 1 at B and the status register at zero
+abbrev after : List ℕ → ℕ → ℕ → State
+after opcodes a q =
+    execs (wordsOf (codeOf 1) 0 1 opcodes (λ k. record { position = 0; width = 0; carry = 0; link = 0 }))
+    (state (a ∷ 0 ∷ []) (record { q = q; status = loaded 0 }))
+
+-- what they leave in register 1 and in Q
+abbrev leaves : List ℕ → ℕ → ℕ → ℕ × ℕ
+leaves opcodes a q = (readAt (after opcodes a q .file) 1, after opcodes a q .core .q)
+
+-- ---- multiply: FF by FF is FE01, example i of document 01
+pub multiply-leaves : leaves (multiplyOpcodes 1) 0xff 0xff ≡ (0xfe, 0x01)
+unfolding performOf stepOf execs readAt storeAt spreadOut loaded zeroOf merged booth partial firstStep step UMULLAST wordsOf times
+multiply-leaves = refl
+
+-- one UMULSTEP less: FB and 07
+abbrev oneStepShort : List ℕ
+oneStepShort = 0x5b ∷ times (bitsIn 1 / 2 - 2) 0x5c (0x5d ∷ [])
+
+pub one-step-short-fails : leaves oneStepShort 0xff 0xff ≢ (0xfe, 0x01)
+unfolding performOf stepOf execs readAt storeAt spreadOut loaded zeroOf merged booth partial firstStep step UMULLAST wordsOf times
+one-step-short-fails e = let h : _≡_ {A = ℕ} 0xfb 0xfe = ap (λ (p : ℕ × ℕ). p .0) e in absurd (omega arith)
+
+-- UMULLAST left out: FF and 01
+abbrev lastAdditionLeftOut : List ℕ
+lastAdditionLeftOut = 0x5b ∷ times (bitsIn 1 / 2 - 1) 0x5c []
+
+pub last-addition-left-out-fails : leaves lastAdditionLeftOut 0xff 0xff ≢ (0xfe, 0x01)
+unfolding performOf stepOf execs readAt storeAt spreadOut loaded merged booth partial firstStep step wordsOf times
+last-addition-left-out-fails e = let h : _≡_ {A = ℕ} 0xff 0xfe = ap (λ (p : ℕ × ℕ). p .0) e in absurd (omega arith)
+
+-- ---- divide: FF by 10 is 0F with remainder 0F, example k, and EF by 10 is 0E with remainder 0F
+pub divide-leaves : leaves (divideOpcodes 1) 0x10 0xff ≡ (0x0f, 0x0f)
+unfolding performOf stepOf execs readAt storeAt spreadOut loaded zeroOf merged carryOf UDIVFIRST UDIVSTEP UDIVLAST REMCORR wordsOf times
+divide-leaves = refl
+
+pub divide-leaves-corrected : leaves (divideOpcodes 1) 0x10 0xef ≡ (0x0f, 0x0e)
+unfolding performOf stepOf execs readAt storeAt spreadOut loaded zeroOf merged carryOf UDIVFIRST UDIVSTEP UDIVLAST REMCORR wordsOf times
+divide-leaves-corrected = refl
+
+-- QUOCORR in the place of REMCORR: remainder FE
+abbrev quotientCorrected : List ℕ
+quotientCorrected = 0x4f ∷ times (bitsIn 1 - 1) 0x54 (0x55 ∷ 0x59 ∷ [])
+
+pub quotient-corrected-fails : leaves quotientCorrected 0x10 0xef ≢ (0x0f, 0x0e)
+unfolding performOf stepOf execs readAt storeAt spreadOut loaded zeroOf merged carryOf overflowOf UDIVFIRST UDIVSTEP UDIVLAST QUOCORR wordsOf times
+quotient-corrected-fails e = let h : _≡_ {A = ℕ} 0xfe 0x0f = ap (λ (p : ℕ × ℕ). p .0) e in absurd (omega arith)
+
+-- UDIVLAST left out: quotient 07, remainder 1F
+abbrev lastStepLeftOut : List ℕ
+lastStepLeftOut = 0x4f ∷ times (bitsIn 1 - 1) 0x54 (0x58 ∷ [])
+
+pub last-step-left-out-fails : leaves lastStepLeftOut 0x10 0xff ≢ (0x0f, 0x0f)
+unfolding performOf stepOf execs readAt storeAt spreadOut loaded zeroOf merged carryOf UDIVFIRST UDIVSTEP REMCORR wordsOf times
+last-step-left-out-fails e = let h : _≡_ {A = ℕ} 0x1f 0x0f = ap (λ (p : ℕ × ℕ). p .0) e in absurd (omega arith)
+
+-- ---- Z after a division does not tell of a zero remainder: E0 by 10 is 0E and 10 by 10 is 01, both with remainder 00, and Z is 0 and 1
+pub zero-remainder-even : (leaves (divideOpcodes 1) 0x10 0xe0 ≡ (0x00, 0x0e)) × (after (divideOpcodes 1) 0x10 0xe0 .core .status .z ≡ 0)
+unfolding performOf stepOf execs readAt storeAt spreadOut loaded zeroOf merged carryOf UDIVFIRST UDIVSTEP UDIVLAST REMCORR wordsOf times
+zero-remainder-even = (refl, refl)
+
+pub zero-remainder-odd : (leaves (divideOpcodes 1) 0x10 0x10 ≡ (0x00, 0x01)) × (after (divideOpcodes 1) 0x10 0x10 .core .status .z ≡ 1)
+unfolding performOf stepOf execs readAt storeAt spreadOut loaded zeroOf merged carryOf UDIVFIRST UDIVSTEP UDIVLAST REMCORR wordsOf times
+zero-remainder-odd = (refl, refl)
