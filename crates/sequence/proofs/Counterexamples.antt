@@ -1,5 +1,5 @@
 -- The lists at one byte, worked out by the checker from the definitions: the lists that must come out exact do, and lists that differ from them in one
--- word do not, so that no word of them can be left out or exchanged.
+-- word do not; and what the definitions of the status register afterwards say is what is found there.
 use mathlib.Core.Path.{_≡_, refl, ap}
 use mathlib.Core.Logic.{_≢_}
 use mathlib.Core.List.{List, [], _∷_}
@@ -7,21 +7,28 @@ use Prim.Native.Nat.{ℕ, _-_, _/_}
 use native.Mathlib.Omega.{arith}
 use Rattle.bits.specs.Bits.{zeroOf, merged, carryOf, overflowOf}
 use Rattle.machine.specs.Status.{spreadOut, loaded}
+use Rattle.arithmetic.specs.Nibbles.{nibbleCarries}
+use Rattle.arithmetic.specs.Arithmetic.{sum}
+use Rattle.arithmetic.specs.Decimal.{sumCorrect}
 use Rattle.multiply.specs.Multiply.{booth, partial, firstStep, step, UMULLAST}
 use Rattle.divide.specs.Divide.{UDIVFIRST, UDIVSTEP, UDIVLAST, REMCORR, QUOCORR}
 use Rattle.chip.specs.Glossary.{performOf}
 use Rattle.chip.specs.Lists.{State, state, readAt, storeAt, stepOf, execs}
-use Rattle.sequence.specs.Sequences.{Idle, wordsOf, times, bitsIn, codeOf, multiplyOpcodes, divideOpcodes}
+use Rattle.sequence.specs.Sequences.{wordsOf, times, bitsIn, codeOf, multiplyOpcodes, divideOpcodes}
+use Rattle.sequence.specs.Results.{dividedStatus}
+use Rattle.sequence.specs.Decimal.{value, Side.at-A, Fields, Layout, decimalWords, summedStatus}
 
--- words with the given opcodes at one byte, with the given register 0 at A and Q, register 1 at B and the status register at zero
-abbrev after : List ℕ → ℕ → ℕ → State
-after opcodes a q =
-    execs (wordsOf (codeOf 1) 0 1 opcodes (λ k. record { position = 0; width = 0; carry = 0; link = 0 }))
-    (state (a ∷ 0 ∷ []) (record { q = q; status = loaded 0 }))
+-- register 0 with a, register 1 and the status register at zero, and q in Q
+abbrev given : ℕ → ℕ → State
+given a q = state (a ∷ 0 ∷ []) (record { q = q; status = loaded 0 })
+
+-- words with the given opcodes at one byte, with register 0 at A and register 1 at B
+abbrev after : List ℕ → State → State
+after opcodes t = execs (wordsOf (codeOf 1) 0 1 opcodes (λ k. record { position = 0; width = 0; carry = 0; link = 0 })) t
 
 -- what they leave in register 1 and in Q
 abbrev leaves : List ℕ → ℕ → ℕ → ℕ × ℕ
-leaves opcodes a q = (readAt (after opcodes a q .file) 1, after opcodes a q .core .q)
+leaves opcodes a q = (readAt (after opcodes (given a q) .file) 1, after opcodes (given a q) .core .q)
 
 -- ---- multiply: FF by FF is FE01, example i of document 01
 pub multiply-leaves : leaves (multiplyOpcodes 1) 0xff 0xff ≡ (0xfe, 0x01)
@@ -46,11 +53,11 @@ last-addition-left-out-fails e = let h : _≡_ {A = ℕ} 0xff 0xfe = ap (λ (p :
 
 -- ---- divide: FF by 10 is 0F with remainder 0F, example k, and EF by 10 is 0E with remainder 0F
 pub divide-leaves : leaves (divideOpcodes 1) 0x10 0xff ≡ (0x0f, 0x0f)
-unfolding performOf stepOf execs readAt storeAt spreadOut loaded zeroOf merged carryOf UDIVFIRST UDIVSTEP UDIVLAST REMCORR wordsOf times
+unfolding performOf stepOf execs readAt storeAt spreadOut loaded zeroOf merged carryOf overflowOf UDIVFIRST UDIVSTEP UDIVLAST REMCORR QUOCORR wordsOf times
 divide-leaves = refl
 
 pub divide-leaves-corrected : leaves (divideOpcodes 1) 0x10 0xef ≡ (0x0f, 0x0e)
-unfolding performOf stepOf execs readAt storeAt spreadOut loaded zeroOf merged carryOf UDIVFIRST UDIVSTEP UDIVLAST REMCORR wordsOf times
+unfolding performOf stepOf execs readAt storeAt spreadOut loaded zeroOf merged carryOf overflowOf UDIVFIRST UDIVSTEP UDIVLAST REMCORR QUOCORR wordsOf times
 divide-leaves-corrected = refl
 
 -- QUOCORR in the place of REMCORR: remainder FE
@@ -66,14 +73,33 @@ abbrev lastStepLeftOut : List ℕ
 lastStepLeftOut = 0x4f ∷ times (bitsIn 1 - 1) 0x54 (0x58 ∷ [])
 
 pub last-step-left-out-fails : leaves lastStepLeftOut 0x10 0xff ≢ (0x0f, 0x0f)
-unfolding performOf stepOf execs readAt storeAt spreadOut loaded zeroOf merged carryOf UDIVFIRST UDIVSTEP REMCORR wordsOf times
+unfolding performOf stepOf execs readAt storeAt spreadOut loaded zeroOf merged carryOf overflowOf UDIVFIRST UDIVSTEP REMCORR wordsOf times
 last-step-left-out-fails e = let h : _≡_ {A = ℕ} 0x1f 0x0f = ap (λ (p : ℕ × ℕ). p .0) e in absurd (omega arith)
 
--- ---- Z after a division does not tell of a zero remainder: E0 by 10 is 0E and 10 by 10 is 01, both with remainder 00, and Z is 0 and 1
-pub zero-remainder-even : (leaves (divideOpcodes 1) 0x10 0xe0 ≡ (0x00, 0x0e)) × (after (divideOpcodes 1) 0x10 0xe0 .core .status .z ≡ 0)
-unfolding performOf stepOf execs readAt storeAt spreadOut loaded zeroOf merged carryOf UDIVFIRST UDIVSTEP UDIVLAST REMCORR wordsOf times
-zero-remainder-even = (refl, refl)
+-- ---- the status register after a division: E0 by 10 is 0E and 10 by 10 is 01, both with remainder 00, and Z is 0 and 1
+abbrev divided : ℕ → State
+divided q = after (divideOpcodes 1) (given 0x10 q)
 
-pub zero-remainder-odd : (leaves (divideOpcodes 1) 0x10 0x10 ≡ (0x00, 0x01)) × (after (divideOpcodes 1) 0x10 0x10 .core .status .z ≡ 1)
-unfolding performOf stepOf execs readAt storeAt spreadOut loaded zeroOf merged carryOf UDIVFIRST UDIVSTEP UDIVLAST REMCORR wordsOf times
-zero-remainder-odd = (refl, refl)
+pub status-even : (leaves (divideOpcodes 1) 0x10 0xe0 ≡ (0x00, 0x0e)) × (divided 0xe0 .core .status .z ≡ 0) × (divided 0xe0 .core .status ≡ dividedStatus 8 1 (given 0x10 0xe0) (divided 0xe0))
+unfolding performOf stepOf execs readAt storeAt spreadOut loaded zeroOf merged carryOf overflowOf UDIVFIRST UDIVSTEP UDIVLAST REMCORR QUOCORR wordsOf times
+status-even = (refl, refl, refl)
+
+pub status-odd : (leaves (divideOpcodes 1) 0x10 0x10 ≡ (0x00, 0x01)) × (divided 0x10 .core .status .z ≡ 1) × (divided 0x10 .core .status ≡ dividedStatus 8 1 (given 0x10 0x10) (divided 0x10))
+unfolding performOf stepOf execs readAt storeAt spreadOut loaded zeroOf merged carryOf overflowOf UDIVFIRST UDIVSTEP UDIVLAST REMCORR QUOCORR wordsOf times
+status-odd = (refl, refl, refl)
+
+-- ---- the status register after a decimal sum: 95 + 10 is 105, and 1 is carried out of the top digit but not into it
+abbrev layout : Layout
+layout =
+    let idle : Fields = record { position = 0; width = 0; select = 0; carry = 0; link = 0 } in
+    record { code = 1; a = 0; b = 1; y = 2; side = at-A; other = 1; z = 2; borrow = 0; fields₁ = idle; fields₂ = idle }
+
+-- ADD and SUM-CORR-A
+abbrev summed : State
+summed = execs (decimalWords 0x42 0x48 layout) (state (0x95 ∷ 0x10 ∷ 0 ∷ []) (record { q = 0; status = loaded 0 }))
+
+pub status-summed :
+    (readAt (summed .file) 2 ≡ 0x05) × (summed .core .status .c ≡ 1) × (summed .core .status .v ≡ 1) ×
+    (summed .core .status ≡ summedStatus 2 0x95 0x10 0 0x05 (loaded 0))
+unfolding performOf stepOf execs readAt storeAt spreadOut loaded zeroOf merged carryOf overflowOf nibbleCarries sum sumCorrect value
+status-summed = (refl, refl, refl, refl)

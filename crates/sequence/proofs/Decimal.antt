@@ -16,7 +16,7 @@ use Rattle.arithmetic.specs.Arithmetic.{sum, difference, borrowIn}
 use Rattle.arithmetic.specs.Decimal.{sumCorrect, diffCorrect}
 use Rattle.chip.specs.Glossary.{performOf}
 use Rattle.chip.specs.Lists.{State, state, readAt, storeAt, inputsOf, stepOf, execs}
-use Rattle.sequence.specs.Decimal.{Digits, value, decimalCarry, decimalBorrow, DecimalOperation, additions, subtractions, Side, Side.at-A, Side.at-B, Layout, wordWith, calculation, correctionAt, sumWords, differenceWords, bitsIn, digitsIn, facing, OfDigits, Elsewhere, DecimalSum, DecimalDifference, Summed, TakenAway, SumExact, DifferenceExact, Each}
+use Rattle.sequence.specs.Decimal.{Digits, value, decimalCarry, decimalBorrow, DecimalOperation, additions, subtractions, Side, Side.at-A, Side.at-B, Layout, wordWith, calculation, correctionAt, sumWords, differenceWords, selectedBits, selectedDigits, facing, OfDigits, Elsewhere, DecimalSum, DecimalDifference, Summed, TakenAway, SumExact, DifferenceExact, Each}
 use Rattle.chip.proofs.Files.{store-length, read-same, read-other}
 use Rattle.sequence.proofs.Lists.{merged-low, merged-high, zero-sign-low}
 use Rattle.sequence.proofs.DecimalNumbers.{SumCorrected, DiffCorrected, borrow-is, digits-fewer}
@@ -81,24 +81,24 @@ module _ (d : Layout) (t : State) (hy : d .y < length (t .file)) (hz : d .z < le
 
 -- the digits of a byte code: two, four, six or eight, of four bits each
 module _ (d : Layout) (code : d .code < 4) where
-  four : bitsIn d ≡ 4 * digitsIn d
+  four : selectedBits d ≡ 4 * selectedDigits d
   four = go (d .code)
     where
       go : (c : ℕ) → selected c ≡ 4 * (selected c / 4)
       go zero = refl
       go (suc c) = omega arith
 
-  two : 2 ≤ digitsIn d
-  two = let h : 8 ≤ bitsIn d = selected-bounds (d .code) code .0 in omega arith
+  two : 2 ≤ selectedDigits d
+  two = let h : 8 ≤ selectedBits d = selected-bounds (d .code) code .0 in omega arith
 
-  eight : digitsIn d ≤ 8
-  eight = let h : bitsIn d ≤ 32 = selected-bounds (d .code) code .1 in omega arith
+  eight : selectedDigits d ≤ 8
+  eight = let h : selectedBits d ≤ 32 = selected-bounds (d .code) code .1 in omega arith
 
   -- the same without the top digit
-  four-less : bitsIn d - 4 ≡ 4 * (digitsIn d - 1)
-  four-less = let h : bitsIn d ≡ 4 * digitsIn d = four in omega arith
+  four-less : selectedBits d - 4 ≡ 4 * (selectedDigits d - 1)
+  four-less = let h : selectedBits d ≡ 4 * selectedDigits d = four in omega arith
 
-  next-place : (bitsIn d - 4) - 4 ≡ bitsIn d - 8
+  next-place : (selectedBits d - 4) - 4 ≡ selectedBits d - 8
   next-place = omega arith
 
 -- ---- additions
@@ -114,10 +114,10 @@ module _ (o : DecimalOperation) (s : IsSum o) (d : Layout) (t : State) (hy : d .
   x = facing o d t
 
   abbrev n : ℕ
-  n = bitsIn d
+  n = selectedBits d
 
   abbrev k : ℕ
-  k = digitsIn d
+  k = selectedDigits d
 
   abbrev out : Outputs
   out = sum x (o .first x) (o .second x) (o .third x) (s .inverted x) (o .passing x)
@@ -189,10 +189,10 @@ module _ (o : DecimalOperation) (s : IsDifference o) (d : Layout) (t : State) (h
   xₛ = facing o d t
 
   abbrev nₛ : ℕ
-  nₛ = bitsIn d
+  nₛ = selectedBits d
 
   abbrev kₛ : ℕ
-  kₛ = digitsIn d
+  kₛ = selectedDigits d
 
   abbrev c : ℕ
   c = s .entering (facing o d t)
@@ -351,12 +351,12 @@ differences-are = (
 
 -- DECIMAL SUMS. Each addition of the table, followed by SUM-CORR of its Y with the same byte code, on one to four bytes, gives the decimal sum
 -- of its operands and carry in where their selected nibbles are digits: the corrected word's digits are that sum modulo 10 to their number, C is
--- the decimal carry, and V, Z, N and the nibble bits are as `DecimalSum` has them; position, width, L, M and S, Q, the unselected bytes, and every
+-- the decimal carry, and V, Z, N and the nibble bits are as `summedStatus` has them; position, width, L, M and S, Q, the unselected bytes, and every
 -- register that neither word writes are as before.
 pub decimal-sums-exact : Each SumExact additions
 decimal-sums-exact = each (λ o s. sum-exact-of o s) additions sums-are
 
 -- DECIMAL DIFFERENCES. Each subtraction of the table, followed by DIFF-CORR of its Y with the same byte code and borrow switch, gives the
--- decimal difference likewise; C tells what is borrowed.
+-- decimal difference likewise; C tells what is borrowed, and the status register is as `takenStatus` has it.
 pub decimal-differences-exact : Each DifferenceExact subtractions
 decimal-differences-exact = each (λ o s. difference-exact-of o s) subtractions differences-are

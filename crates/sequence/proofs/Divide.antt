@@ -331,7 +331,7 @@ module _ (n code a b : ℕ) (bits : selected code ≡ n) (ab : a ≢ b) (t : Sta
 -- DIVIDE. On one to four bytes, with the dividend in Q, a divisor that is not 0 in register a, and b another register of the file whose
 -- selected bytes are 0: after one UDIVFIRST, n - 1 UDIVSTEP, one UDIVLAST and REMCORR, whatever the status register held before, Q holds the
 -- quotient and register b the remainder, which is below the divisor; every other register and all unselected bytes are as before, and the status
--- register is as `Divided` has it.
+-- register is as `dividedStatus` has it.
 pub divide-exact :
     (w a b : ℕ) (idle : ℕ → Idle) (t : State) → 1 ≤ w → w ≤ 4 → a ≢ b → b < length (t .file) →
     readAt (t .file) a < 2 ^ 32 → register (bitsIn w) a t ≢ 0 → register (bitsIn w) b t ≡ 0 →

@@ -54,7 +54,7 @@ module _ (s file : List ℕ) (m : Machine) (start : ℕ) (call : Accepted s file
       go (more r a) = r
 
   -- MULTIPLY ON A SHEET. Where the multiply list of registers a and b stands in an accepted sheet, running it leaves the high half of the exact
-  -- product in register b and the low half in Q, on one to four bytes, and all else as it was.
+  -- product in register b and the low half in Q, on one to four bytes, and all else as it was, but for Z and M as `multipliedStatus` has them.
   pub sheet-multiplies : (w a b : ℕ) (idle : ℕ → Idle) → 1 ≤ w → w ≤ 4 → a ≢ b → Stands s start (multiplyWords w a b idle)
       → Multiplied (bitsIn w) a b (entering file m) (handed (runOn s file m start (multiplyWords w a b idle)))
   unfolding listed
@@ -63,7 +63,7 @@ module _ (s file : List ℕ) (m : Machine) (start : ℕ) (call : Accepted s file
       (multiply-exact w a b idle (entering file m) h1 h4 ab (first-ready _ _ stands .b))
 
   -- DIVIDE ON A SHEET. With the selected bytes of register b zero and those of register a not, Q gets the exact quotient and register b the
-  -- remainder, below the divisor.
+  -- remainder, below the divisor; the status register is as `dividedStatus` has it.
   pub sheet-divides : (w a b : ℕ) (idle : ℕ → Idle) → 1 ≤ w → w ≤ 4 → a ≢ b → Stands s start (divideWords w a b idle)
       → register (bitsIn w) a (entering file m) ≢ 0 → register (bitsIn w) b (entering file m) ≡ 0
       → Divided (bitsIn w) a b (entering file m) (handed (runOn s file m start (divideWords w a b idle)))

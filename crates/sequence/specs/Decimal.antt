@@ -6,6 +6,7 @@ use Prim.Native.Nat.{ℕ, zero, suc, _+_, _-_, _*_, _/_, _%_, _^_, _<_}
 use lib.ListN.{length}
 use lib.Dec.{ltb}
 use Rattle.bits.specs.Bits.{selected, flag, xor}
+use Rattle.machine.specs.declared.Status.{Status}
 use Rattle.machine.specs.declared.Inputs.{Inputs}
 use Rattle.machine.specs.Status.{withC, withV, withNibbles}
 use Rattle.machine.specs.Inputs.{carryIn, zeroSign, Sound}
@@ -151,11 +152,11 @@ abbrev pub differenceWords : DecimalOperation → Layout → List Word
 differenceWords o d = decimalWords (o .opcode) 0x4a d
 
 -- the selected bits, and the digits in them
-abbrev pub bitsIn : Layout → ℕ
-bitsIn d = selected (d .code)
+abbrev pub selectedBits : Layout → ℕ
+selectedBits d = selected (d .code)
 
-abbrev pub digitsIn : Layout → ℕ
-digitsIn d = bitsIn d / 4
+abbrev pub selectedDigits : Layout → ℕ
+selectedDigits d = selectedBits d / 4
 
 -- what stands at the chip for the first word
 abbrev pub facing : DecimalOperation → Layout → State → Inputs
@@ -163,7 +164,7 @@ facing o d t = inputsOf (calculation (o .opcode) d) t
 
 -- the selected nibbles of both operands are digits
 abbrev pub OfDigits : DecimalOperation → Layout → State → Type 0
-OfDigits o d t = Digits (digitsIn d) (o .first (facing o d t)) × Digits (digitsIn d) (o .second (facing o d t))
+OfDigits o d t = Digits (selectedDigits d) (o .first (facing o d t)) × Digits (selectedDigits d) (o .second (facing o d t))
 
 -- ---- what comes out, from the state t before to the state u after
 -- Q and all registers but y and z are as before, and the unselected bytes of register z are those of the operand that passes
@@ -173,43 +174,49 @@ pub record Elsewhere (n y z passing : ℕ) (t u : State) : Type 0 where
   pub q : u .core .q ≡ t .core .q
   pub above : readAt (u .file) z / 2 ^ n ≡ passing / 2 ^ n
 
--- Register z holds the k digits of A + B + c modulo 10 ^ k. C is the decimal carry, and V that xor the decimal carry into the top digit; Z and N
--- are of the k digits; the nibble bits are those of the addition, of the whole words. All else in the status register is as before.
+-- The status register after a sum of k digits, from s before it. C is the decimal carry, and V that xor the decimal carry into the top digit; Z is 1
+-- exactly where the k digits of Y are zero, and N is their top bit; the nibble bits are the nibble carries that the addition leaves, of the whole
+-- words. Position, width, L, M and S are as before.
+abbrev pub summedStatus : ℕ → ℕ → ℕ → ℕ → ℕ → Status → Status
+summedStatus k A B c y s =
+    withNibbles (nibbleCarries 8 A B c)
+    (withV (xor (decimalCarry k A B c) (decimalCarry (k - 1) A B c))
+    (withC (decimalCarry k A B c)
+    (zeroSign (4 * k) y s)))
+
+-- register z holds the k digits of A + B + c modulo 10 ^ k
 pub record DecimalSum (k z A B c : ℕ) (t u : State) : Type 0 where
   pub digits : Digits k (readAt (u .file) z)
   pub sum : value k (readAt (u .file) z) ≡ (value k A + value k B + c) % 10 ^ k
-  pub status :
-      u .core .status ≡
-      withNibbles (nibbleCarries 8 A B c)
-      (withV (xor (decimalCarry k A B c) (decimalCarry (k - 1) A B c))
-      (withC (decimalCarry k A B c)
-      (zeroSign (4 * k) (readAt (u .file) z) (t .core .status))))
+  pub status : u .core .status ≡ summedStatus k A B c (readAt (u .file) z) (t .core .status)
 
--- Register z holds the k digits of A - B - c modulo 10 ^ k: where that is below zero, 1 is borrowed, of weight 10 ^ k. C is the complement of what
--- is borrowed, or that itself in borrow mode, and V what is borrowed xor the decimal borrow from the top digit; Z, N, the nibble bits and all else
--- in the status register likewise.
+-- After a difference: C is the complement of what is borrowed, or that itself in borrow mode, and V what is borrowed xor the decimal borrow from the
+-- top digit; the nibble bits are the nibble borrows that the subtraction leaves. Z, N and all else as after a sum.
+abbrev pub takenStatus : ℕ → ℕ → ℕ → ℕ → ℕ → ℕ → Status → Status
+takenStatus k A B c mode y s =
+    withNibbles (nibbleBorrows 8 A B c)
+    (withV (xor (decimalBorrow k A B c) (decimalBorrow (k - 1) A B c))
+    (withC (1 - xor (decimalBorrow k A B c) mode)
+    (zeroSign (4 * k) y s)))
+
+-- register z holds the k digits of A - B - c modulo 10 ^ k: where that is below zero, 1 is borrowed, of weight 10 ^ k
 pub record DecimalDifference (k z A B c mode : ℕ) (t u : State) : Type 0 where
   pub digits : Digits k (readAt (u .file) z)
   pub difference : value k (readAt (u .file) z) ≡ (value k A + (10 ^ k - (value k B + c))) % 10 ^ k
   pub balance : value k (readAt (u .file) z) + value k B + c ≡ value k A + 10 ^ k * decimalBorrow k A B c
-  pub status :
-      u .core .status ≡
-      withNibbles (nibbleBorrows 8 A B c)
-      (withV (xor (decimalBorrow k A B c) (decimalBorrow (k - 1) A B c))
-      (withC (1 - xor (decimalBorrow k A B c) mode)
-      (zeroSign (4 * k) (readAt (u .file) z) (t .core .status))))
+  pub status : u .core .status ≡ takenStatus k A B c mode (readAt (u .file) z) (t .core .status)
 
 -- an addition and its correction
 abbrev pub Summed : DecimalOperation → Layout → State → State → Type 0
 Summed o d t u =
-    DecimalSum (digitsIn d) (d .z) (o .first (facing o d t)) (o .second (facing o d t)) (o .third (facing o d t)) t u
-    × Elsewhere (bitsIn d) (d .y) (d .z) (o .passing (facing o d t)) t u
+    DecimalSum (selectedDigits d) (d .z) (o .first (facing o d t)) (o .second (facing o d t)) (o .third (facing o d t)) t u
+    × Elsewhere (selectedBits d) (d .y) (d .z) (o .passing (facing o d t)) t u
 
 -- a subtraction and its correction
 abbrev pub TakenAway : DecimalOperation → Layout → State → State → Type 0
 TakenAway o d t u =
-    DecimalDifference (digitsIn d) (d .z) (o .first (facing o d t)) (o .second (facing o d t)) (o .third (facing o d t)) (d .borrow) t u
-    × Elsewhere (bitsIn d) (d .y) (d .z) (o .passing (facing o d t)) t u
+    DecimalDifference (selectedDigits d) (d .z) (o .first (facing o d t)) (o .second (facing o d t)) (o .third (facing o d t)) (d .borrow) t u
+    × Elsewhere (selectedBits d) (d .y) (d .z) (o .passing (facing o d t)) t u
 
 -- an addition and its correction come out exact, for every layout and state in which the operands' selected nibbles are digits
 abbrev pub SumExact : DecimalOperation → Type 0
