@@ -33,9 +33,11 @@ runOn s file m start ws = runOf s file m start (length ws)
 -- an addition and its correction come out exact where they stand in the sheet and the operands' selected nibbles are digits
 abbrev pub SumOnSheet : List ℕ → List ℕ → Machine → ℕ → DecimalOperation → Type 0
 SumOnSheet s file m start o =
-    (d : Layout) → Stands s start (sumWords o d) → OfDigits o d (entering file m) → Summed o d (entering file m) (handed (runOn s file m start (sumWords o d)))
+    (d : Layout) → Stands s start (sumWords o d) → OfDigits o d (entering file m) →
+    Summed o d (entering file m) (handed (runOn s file m start (sumWords o d)))
 
 -- a subtraction and its correction likewise
 abbrev pub DifferenceOnSheet : List ℕ → List ℕ → Machine → ℕ → DecimalOperation → Type 0
 DifferenceOnSheet s file m start o =
-    (d : Layout) → Stands s start (differenceWords o d) → OfDigits o d (entering file m) → TakenAway o d (entering file m) (handed (runOn s file m start (differenceWords o d)))
+    (d : Layout) → Stands s start (differenceWords o d) → OfDigits o d (entering file m) →
+    TakenAway o d (entering file m) (handed (runOn s file m start (differenceWords o d)))
