@@ -80,11 +80,15 @@ last-step-left-out-fails e = let h : _≡_ {A = ℕ} 0x1f 0x0f = ap (λ (p : ℕ
 abbrev divided : ℕ → State
 divided q = after (divideOpcodes 1) (given 0x10 q)
 
-pub status-even : (leaves (divideOpcodes 1) 0x10 0xe0 ≡ (0x00, 0x0e)) × (divided 0xe0 .core .status .z ≡ 0) × (divided 0xe0 .core .status ≡ dividedStatus 8 1 (given 0x10 0xe0) (divided 0xe0))
+pub status-even :
+    (leaves (divideOpcodes 1) 0x10 0xe0 ≡ (0x00, 0x0e)) × (divided 0xe0 .core .status .z ≡ 0) ×
+    (divided 0xe0 .core .status ≡ dividedStatus 8 1 (given 0x10 0xe0) (divided 0xe0))
 unfolding performOf stepOf execs readAt storeAt spreadOut loaded zeroOf merged carryOf overflowOf UDIVFIRST UDIVSTEP UDIVLAST REMCORR QUOCORR wordsOf times
 status-even = (refl, refl, refl)
 
-pub status-odd : (leaves (divideOpcodes 1) 0x10 0x10 ≡ (0x00, 0x01)) × (divided 0x10 .core .status .z ≡ 1) × (divided 0x10 .core .status ≡ dividedStatus 8 1 (given 0x10 0x10) (divided 0x10))
+pub status-odd :
+    (leaves (divideOpcodes 1) 0x10 0x10 ≡ (0x00, 0x01)) × (divided 0x10 .core .status .z ≡ 1) ×
+    (divided 0x10 .core .status ≡ dividedStatus 8 1 (given 0x10 0x10) (divided 0x10))
 unfolding performOf stepOf execs readAt storeAt spreadOut loaded zeroOf merged carryOf overflowOf UDIVFIRST UDIVSTEP UDIVLAST REMCORR QUOCORR wordsOf times
 status-odd = (refl, refl, refl)
 

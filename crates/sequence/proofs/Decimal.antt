@@ -357,6 +357,6 @@ pub decimal-sums-exact : Each SumExact additions
 decimal-sums-exact = each (λ o s. sum-exact-of o s) additions sums-are
 
 -- DECIMAL DIFFERENCES. Each subtraction of the table, followed by DIFF-CORR of its Y with the same byte code and borrow switch, gives the
--- decimal difference likewise; C tells what is borrowed, and the status register is as `takenStatus` has it.
+-- decimal difference likewise; C tells what is borrowed, and the status register is as `takenAwayStatus` has it.
 pub decimal-differences-exact : Each DifferenceExact subtractions
 decimal-differences-exact = each (λ o s. difference-exact-of o s) subtractions differences-are

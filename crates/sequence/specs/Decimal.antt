@@ -192,8 +192,8 @@ pub record DecimalSum (k z A B c : ℕ) (t u : State) : Type 0 where
 
 -- After a difference: C is the complement of what is borrowed, or that itself in borrow mode, and V what is borrowed xor the decimal borrow from the
 -- top digit; the nibble bits are the nibble borrows that the subtraction leaves. Z, N and all else as after a sum.
-abbrev pub takenStatus : ℕ → ℕ → ℕ → ℕ → ℕ → ℕ → Status → Status
-takenStatus k A B c mode y s =
+abbrev pub takenAwayStatus : ℕ → ℕ → ℕ → ℕ → ℕ → ℕ → Status → Status
+takenAwayStatus k A B c mode y s =
     withNibbles (nibbleBorrows 8 A B c)
     (withV (xor (decimalBorrow k A B c) (decimalBorrow (k - 1) A B c))
     (withC (1 - xor (decimalBorrow k A B c) mode)
@@ -204,7 +204,7 @@ pub record DecimalDifference (k z A B c mode : ℕ) (t u : State) : Type 0 where
   pub digits : Digits k (readAt (u .file) z)
   pub difference : value k (readAt (u .file) z) ≡ (value k A + (10 ^ k - (value k B + c))) % 10 ^ k
   pub balance : value k (readAt (u .file) z) + value k B + c ≡ value k A + 10 ^ k * decimalBorrow k A B c
-  pub status : u .core .status ≡ takenStatus k A B c mode (readAt (u .file) z) (t .core .status)
+  pub status : u .core .status ≡ takenAwayStatus k A B c mode (readAt (u .file) z) (t .core .status)
 
 -- an addition and its correction
 abbrev pub Summed : DecimalOperation → Layout → State → State → Type 0
