@@ -15,7 +15,7 @@ use Rattle.divide.specs.Divide.{UDIVFIRST, UDIVSTEP, UDIVLAST, REMCORR, QUOCORR
 use Rattle.chip.specs.Glossary.{performOf}
 use Rattle.chip.specs.Lists.{State, state, readAt, storeAt, stepOf, execs}
 use Rattle.sequence.specs.Sequences.{wordsOf, times, bitsIn, codeOf, multiplyOpcodes, divideOpcodes}
-use Rattle.sequence.specs.Results.{dividedStatus}
+use Rattle.sequence.specs.Results.{multipliedStatus, dividedStatus}
 use Rattle.sequence.specs.Decimal.{value, Side.at-A, Fields, Layout, decimalWords, summedStatus}
 
 -- register 0 with a, register 1 and the status register at zero, and q in Q
@@ -51,6 +51,16 @@ pub last-addition-left-out-fails : leaves lastAdditionLeftOut 0xff 0xff ≢ (0xf
 unfolding performOf stepOf execs readAt storeAt spreadOut loaded merged booth partial firstStep step wordsOf times
 last-addition-left-out-fails e = let h : _≡_ {A = ℕ} 0xff 0xfe = ap (λ (p : ℕ × ℕ). p .0) e in absurd (omega arith)
 
+-- the status register: 01 by 80 is 0080, and Z is 1, as the high half is zero
+abbrev multiplied : State
+multiplied = after (multiplyOpcodes 1) (given 0x01 0x80)
+
+pub status-multiplied :
+    (leaves (multiplyOpcodes 1) 0x01 0x80 ≡ (0x00, 0x80)) × (multiplied .core .status .z ≡ 1) ×
+    (multiplied .core .status ≡ multipliedStatus 8 1 (given 0x01 0x80) multiplied)
+unfolding performOf stepOf execs readAt storeAt spreadOut loaded zeroOf merged booth partial firstStep step UMULLAST wordsOf times
+status-multiplied = (refl, refl, refl)
+
 -- ---- divide: FF by 10 is 0F with remainder 0F, example k, and EF by 10 is 0E with remainder 0F
 pub divide-leaves : leaves (divideOpcodes 1) 0x10 0xff ≡ (0x0f, 0x0f)
 unfolding performOf stepOf execs readAt storeAt spreadOut loaded zeroOf merged carryOf overflowOf UDIVFIRST UDIVSTEP UDIVLAST REMCORR QUOCORR wordsOf times
@@ -76,7 +86,7 @@ pub last-step-left-out-fails : leaves lastStepLeftOut 0x10 0xff ≢ (0x0f, 0x0f)
 unfolding performOf stepOf execs readAt storeAt spreadOut loaded zeroOf merged carryOf overflowOf UDIVFIRST UDIVSTEP REMCORR wordsOf times
 last-step-left-out-fails e = let h : _≡_ {A = ℕ} 0x1f 0x0f = ap (λ (p : ℕ × ℕ). p .0) e in absurd (omega arith)
 
--- ---- the status register after a division: E0 by 10 is 0E and 10 by 10 is 01, both with remainder 00, and Z is 0 and 1
+-- the status register: E0 by 10 is 0E and 10 by 10 is 01, both with remainder 00, and Z is 0 and 1
 abbrev divided : ℕ → State
 divided q = after (divideOpcodes 1) (given 0x10 q)
 
@@ -92,7 +102,7 @@ pub status-odd :
 unfolding performOf stepOf execs readAt storeAt spreadOut loaded zeroOf merged carryOf overflowOf UDIVFIRST UDIVSTEP UDIVLAST REMCORR QUOCORR wordsOf times
 status-odd = (refl, refl, refl)
 
--- ---- the status register after a decimal sum: 95 + 10 is 105, and 1 is carried out of the top digit but not into it
+-- ---- decimal: 95 + 10 is 105, and 1 is carried out of the top digit but not into it
 abbrev layout : Layout
 layout =
     let idle : Fields = record { position = 0; width = 0; select = 0; carry = 0; link = 0 } in

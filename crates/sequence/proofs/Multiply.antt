@@ -154,8 +154,8 @@ multiply-exact w a b idle t h1 h4 ab hb =
     lasted : Idle → State → State
     lasted i u = stepOf (wordOf code a b 0x5d i) u
 
-    zero : (i : Idle) (u : State) → b < length (u .file) → lasted i u .core .status .z ≡ zeroOf n (readAt (lasted i u .file) b)
-    zero i u h =
+    last-zero : (i : Idle) (u : State) → b < length (u .file) → lasted i u .core .status .z ≡ zeroOf n (readAt (lasted i u .file) b)
+    last-zero i u h =
         let x : Inputs = inputsOf (wordOf code a b 0x5d i) u in
         ap (λ (s : Status). s .z) (word-status n code a b bits i 0x5d u h)
         ∙ subst (λ (k : ℕ). performOf 0x5d x .status .z ≡ zeroOf k (performOf 0x5d x .y)) bits (last-z x)
@@ -170,5 +170,5 @@ multiply-exact w a b idle t h1 h4 ab hb =
           rest = r .rest;
           status =
               ap (λ (s : Status). withZ (lasted i u .core .status .z) (withM (lasted i u .core .status .m) s)) (r .stays)
-              ∙ ap₂ (λ (z m : ℕ). withZ z (withM m (t .core .status))) (zero i u h) bit;
+              ∙ ap₂ (λ (z m : ℕ). withZ z (withM m (t .core .status))) (last-zero i u h) bit;
         }
