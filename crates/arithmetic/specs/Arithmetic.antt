@@ -26,17 +26,38 @@ sum x p r c i u = added x p r c i (nibbleCarries 8 p r c) u
 unfoldable pub difference : Inputs → ℕ → ℕ → ℕ → ℕ → Outputs
 difference x p r c u = added x p (notOf r) c (x .borrow) (nibbleBorrows 8 p r (1 - c)) u
 
--- the source increased by k; C is the EX-OR of carryout and borrow mode
+-- what a page that adds names: its two operands, the carry into the adder, 1 where C is the complement of the carryout, and the unselected bytes
+pub record Addition : Type 0 where
+  pub first : ℕ
+  pub second : ℕ
+  pub carry : ℕ
+  pub inverted : ℕ
+  pub unselected : ℕ
+
+abbrev pub adding : Inputs → Addition → Outputs
+adding x t = sum x (t .first) (t .second) (t .carry) (t .inverted) (t .unselected)
+
+-- and one that subtracts: from what, what, the carry into the adder (1 where nothing is borrowed), and the unselected bytes
+pub record Subtraction : Type 0 where
+  pub minuend : ℕ
+  pub subtrahend : ℕ
+  pub carry : ℕ
+  pub unselected : ℕ
+
+abbrev pub subtracting : Inputs → Subtraction → Outputs
+subtracting x t = difference x (t .minuend) (t .subtrahend) (t .carry) (t .unselected)
+
+-- INCR, INCR2, INCR4: the source increased by 1, 2 or 4. C is the EX-OR of carryout and borrow mode (M19).
 abbrev pub increment : Inputs → ℕ → ℕ → Outputs
-increment x s k = sum x s k 0 (x .borrow) s
+increment x source by = adding x (record { first = source; second = by; carry = 0; inverted = x .borrow; unselected = source })
 
--- the source decreased by k
+-- DECR, DECR2, DECR4: the source decreased by 1, 2 or 4
 abbrev pub decrement : Inputs → ℕ → ℕ → Outputs
-decrement x s k = difference x s k 1 s
+decrement x source by = subtracting x (record { minuend = source; subtrahend = by; carry = 1; unselected = source })
 
--- the two's complement
+-- NEG: the two's complement of the source, which is zero less the source
 abbrev pub negate : Inputs → ℕ → Outputs
-negate x s = difference x 0 s 1 s
+negate x source = subtracting x (record { minuend = 0; subtrahend = source; carry = 1; unselected = source })
 
 -- 0A
 abbrev pub NEG-A : Inputs → Outputs
@@ -100,24 +121,24 @@ borrowIn x = xor (carryIn x) (x .borrow)
 
 -- 42. Carry is generated regardless of the state of borrow mode.
 abbrev pub ADD : Inputs → Outputs
-ADD x = sum x (x .a) (x .b) 0 0 (x .b)
+ADD x = adding x (record { first = x .a; second = x .b; carry = 0; inverted = 0; unselected = x .b })
 
 -- 43
 abbrev pub ADDC : Inputs → Outputs
-ADDC x = sum x (x .a) (x .b) (carryIn x) 0 (x .b)
+ADDC x = adding x (record { first = x .a; second = x .b; carry = carryIn x; inverted = 0; unselected = x .b })
 
 -- 44
 abbrev pub SUB : Inputs → Outputs
-SUB x = difference x (x .a) (x .b) 1 (x .b)
+SUB x = subtracting x (record { minuend = x .a; subtrahend = x .b; carry = 1; unselected = x .b })
 
 -- 45
 abbrev pub SUBC : Inputs → Outputs
-SUBC x = difference x (x .a) (x .b) (borrowIn x) (x .b)
+SUBC x = subtracting x (record { minuend = x .a; subtrahend = x .b; carry = borrowIn x; unselected = x .b })
 
 -- 46
 abbrev pub SUBR : Inputs → Outputs
-SUBR x = difference x (x .b) (x .a) 1 (x .b)
+SUBR x = subtracting x (record { minuend = x .b; subtrahend = x .a; carry = 1; unselected = x .b })
 
 -- 47
 abbrev pub SUBRC : Inputs → Outputs
-SUBRC x = difference x (x .b) (x .a) (borrowIn x) (x .b)
+SUBRC x = subtracting x (record { minuend = x .b; subtrahend = x .a; carry = borrowIn x; unselected = x .b })

@@ -10,7 +10,7 @@ use Rattle.movement.specs.Prioritize.{prioritize}
 use Rattle.arithmetic.specs.Nibbles.{nibbleCarries}
 use Rattle.arithmetic.specs.Arithmetic.{sum}
 use Rattle.arithmetic.specs.Decimal.{sumCorrect}
-use Rattle.multiply.specs.Multiply.{booth, partial, firstStep, step, UMULLAST}
+use Rattle.multiply.specs.Multiply.{firstRow, stepRow, firstPartial, partial, firstStep, step, UMULLAST}
 use Rattle.divide.specs.Divide.{UDIVFIRST, UDIVSTEP, UDIVLAST, REMCORR}
 use Rattle.fields.specs.Field.{inField, PASS-MASK}
 use Rattle.chip.specs.declared.Word.{Word}
@@ -118,5 +118,5 @@ allStated [] = []
 allStated (e ∷ es) = e .stated ∷ allStated es
 
 pub lettered-examples : allGiven lettered ≡ allStated lettered
-unfolding performOf stepOf execs readAt storeAt gathered spreadOut asRead loaded zeroOf merged carryOf overflowOf rotatedUp fieldMask priorityOf leadingZeros PASS-STAT loadStatus prioritize nibbleCarries sum sumCorrect booth partial firstStep step UMULLAST UDIVFIRST UDIVSTEP UDIVLAST REMCORR inField PASS-MASK
+unfolding performOf stepOf execs readAt storeAt gathered spreadOut asRead loaded zeroOf merged carryOf overflowOf rotatedUp fieldMask priorityOf leadingZeros PASS-STAT loadStatus prioritize nibbleCarries sum sumCorrect firstRow stepRow firstPartial partial firstStep step UMULLAST UDIVFIRST UDIVSTEP UDIVLAST REMCORR inField PASS-MASK
 lettered-examples = refl

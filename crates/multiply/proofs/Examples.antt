@@ -6,7 +6,7 @@ use Rattle.bits.specs.Bits.{zeroOf, merged}
 use Rattle.machine.specs.declared.Inputs.{Inputs}
 use Rattle.machine.specs.declared.Outputs.{Outputs}
 use Rattle.machine.specs.Status.{loaded}
-use Rattle.multiply.specs.Multiply.{booth, partial, firstStep, step, UMULFIRST, UMULSTEP, UMULLAST}
+use Rattle.multiply.specs.Multiply.{firstRow, stepRow, firstPartial, partial, firstStep, step, UMULFIRST, UMULSTEP, UMULLAST}
 
 -- the multiplicand 48 at the A input, one byte, with the given B and what the word before left in Q and the status register
 abbrev facing : ℕ → Outputs → Inputs
@@ -42,5 +42,5 @@ abbrev pub stated : List ℕ
 stated = 0x12 ∷ 0x16 ∷ 0xe1 ∷ 0x1c ∷ 0x1c ∷ 0x68 ∷ []
 
 pub appendix-b : given ≡ stated
-unfolding zeroOf merged loaded booth partial firstStep step UMULLAST
+unfolding zeroOf merged loaded firstRow stepRow firstPartial partial firstStep step UMULLAST
 appendix-b = refl

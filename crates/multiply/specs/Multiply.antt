@@ -19,20 +19,40 @@ signExtended n s = s % 2 ^ n + signOf n s * (3 * 2 ^ n)
 abbrev pub minus : ℕ → ℕ → ℕ
 minus n v = 2 ^ (n + 3) - v
 
--- what is added to B*, by the cases of Q1 Q0 (as one number) and M
-unfoldable pub booth : ℕ → ℕ → ℕ → ℕ → ℕ
-booth n a zero zero = 0
-booth n a zero (suc m) = a
-booth n a (suc zero) zero = a
-booth n a (suc zero) (suc m) = 2 * a
-booth n a (suc (suc zero)) zero = minus n (2 * a)
-booth n a (suc (suc zero)) (suc m) = minus n a
-booth n a (suc (suc (suc d))) zero = minus n a
-booth n a (suc (suc (suc d))) (suc m) = 0
+-- Based on the values of Q1 and Q0, the value F* of a first step: the rows of UMULFIRST's page, and of SMULFIRST's, whose last row is printed
+-- for 01 once more (M11).
+unfoldable pub firstRow : ℕ → ℕ → ℕ → ℕ → ℕ
+-- 00: 0
+firstRow n a zero zero = 0
+-- 01: A*
+firstRow n a zero (suc q0) = a
+-- 10: 2's complement of 2A*
+firstRow n a (suc q1) zero = minus n (2 * a)
+-- 11: 2's complement of A*
+firstRow n a (suc q1) (suc q0) = minus n a
 
--- F*, from A*, B*, the low two bits of Q, and M
+-- Based on the values of Q1, Q0 and M, the value F* of a step of the inner loop: the rows of UMULSTEP's page, and of SMULSTEP's
+unfoldable pub stepRow : ℕ → ℕ → ℕ → ℕ → ℕ → ℕ → ℕ
+-- 000 or 111: B*
+stepRow n a b zero zero zero = b
+stepRow n a b (suc q1) (suc q0) (suc m) = b
+-- 001 or 010: B* + A*
+stepRow n a b zero zero (suc m) = b + a
+stepRow n a b zero (suc q0) zero = b + a
+-- 101 or 110: B* - A*
+stepRow n a b (suc q1) zero (suc m) = b + minus n a
+stepRow n a b (suc q1) (suc q0) zero = b + minus n a
+-- 011: B* + 2A*
+stepRow n a b zero (suc q0) (suc m) = b + 2 * a
+-- 100: B* - 2A*
+stepRow n a b (suc q1) zero zero = b + minus n (2 * a)
+
+-- F*, in n + 2 bits, from A* and the low two bits of Q; and from A*, B*, the low two bits of Q, and M
+unfoldable pub firstPartial : ℕ → ℕ → ℕ → ℕ
+firstPartial n a q = firstRow n a (bitOf 1 q) (bitOf 0 q) % 2 ^ (n + 2)
+
 unfoldable pub partial : ℕ → ℕ → ℕ → ℕ → ℕ → ℕ
-partial n a b q m = (b + booth n a (q % 4) m) % 2 ^ (n + 2)
+partial n a b q m = stepRow n a b (bitOf 1 q) (bitOf 0 q) m % 2 ^ (n + 2)
 
 -- F* shifted down 2 bits is output on the Y bus, unselected bytes from B; the selected bytes of Q are shifted down 2 bits with F1 F0 being the
 -- fill bits; Q1 is moved to M
@@ -46,7 +66,7 @@ shiftedBy2 x f =
 
 -- the first step, from A*: the selected bytes of B are internally zeroed, and M does not count
 unfoldable pub firstStep : Inputs → ℕ → Outputs
-firstStep x a = shiftedBy2 x (partial (bitsOf x) a 0 (x .q) 0)
+firstStep x a = shiftedBy2 x (firstPartial (bitsOf x) a (x .q))
 
 -- a step of the inner loop, from A*: B is sign extended
 unfoldable pub step : Inputs → ℕ → Outputs

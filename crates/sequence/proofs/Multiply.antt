@@ -12,8 +12,9 @@ use Rattle.machine.specs.declared.Status.{Status}
 use Rattle.machine.specs.declared.Inputs.{Inputs}
 use Rattle.machine.specs.Status.{withZ, withM}
 use Rattle.machine.specs.Inputs.{bitsOf}
-use Rattle.multiply.specs.Multiply.{signExtended, booth, partial, shiftedBy2, firstStep, step, UMULLAST}
+use Rattle.multiply.specs.Multiply.{signExtended, firstPartial, partial, shiftedBy2, firstStep, step, UMULLAST}
 use Rattle.multiply.proofs.Bounds.{extra, extra-one, quarter}
+use Rattle.multiply.proofs.Rows.{booth, partial-by-digit, first-is}
 use Rattle.chip.specs.Glossary.{performOf}
 use Rattle.chip.specs.Lists.{State, readAt, inputsOf, stepOf, execs}
 use Rattle.sequence.specs.Sequences.{Idle, bitsIn, codeOf, wordOf, wordsOf, multiplyWords}
@@ -34,9 +35,9 @@ booth-is n a (suc (suc (suc d))) zero = ap (λ (x : ℕ). x - a) (extra-one n)
 booth-is n a (suc (suc (suc d))) (suc m) = refl
 
 partial-is : (n a b q m : ℕ) → 2 ≤ n → partial n a b q m ≡ (b + digit (2 ^ n) a (q % 2 ^ n % 4) m) % (4 * 2 ^ n)
-unfolding partial
 partial-is n a b q m h =
-    ap (λ (w : ℕ). (b + booth n a (q % 4) m) % w) (extra n)
+    partial-by-digit n a b q m
+    ∙ ap (λ (w : ℕ). (b + booth n a (q % 4) m) % w) (extra n)
     ∙ ap (λ (x : ℕ). (b + x) % (4 * 2 ^ n)) (booth-is n a (q % 4) m ∙ ap (λ (d : ℕ). digit (2 ^ n) a d m) (sym (low-digit n q h)))
 
 extended-is : (n b : ℕ) → 1 ≤ n → signExtended n b ≡ ext2 (2 ^ n) (b % 2 ^ n)
@@ -68,7 +69,10 @@ shift-above-q x f = merged-high (bitsOf x) _ (x .q)
 
 partial-lt : (n a b q m : ℕ) → partial n a b q m < 4 * 2 ^ n
 unfolding partial
-partial-lt n a b q m = subst (λ (w : ℕ). (b + booth n a (q % 4) m) % w < 4 * 2 ^ n) (sym (extra n)) (mod-lt (b + booth n a (q % 4) m) (omega (arith, pow-pos n)))
+partial-lt n a b q m = subst (λ (w : ℕ). partial n a b q m < w) (extra n) (mod-lt _ (pow-pos (n + 2)))
+
+first-lt : (n a q : ℕ) → firstPartial n a q < 4 * 2 ^ n
+first-lt n a q = subst (λ (f : ℕ). f < 4 * 2 ^ n) (sym (first-is n a q)) (partial-lt n a 0 q 0)
 
 -- ---- the three words
 -- they change Z and M alone
@@ -79,7 +83,8 @@ first-acts : (n A : ℕ) → 2 ≤ n → Acts steady n A 0x5b (λ s. Unit) (mulF
 unfolding performOf firstStep mulFirst
 first-acts n A h =
     acts-from steady n A 0x5b mulFirst (λ n A. 2 ≤ n) (λ s. Unit) h
-    (λ x h g. shift-sees x (partial (bitsOf x) (x .a % 2 ^ bitsOf x) 0 (x .q) 0) h (partial-lt _ _ _ _ _) ∙ ap (shifted (2 ^ bitsOf x) (before (bitsOf x) x)) (partial-is (bitsOf x) (x .a % 2 ^ bitsOf x) 0 (x .q) 0 h))
+    (λ x h g. shift-sees x (firstPartial (bitsOf x) (x .a % 2 ^ bitsOf x) (x .q)) h (first-lt _ _ _)
+    ∙ ap (shifted (2 ^ bitsOf x) (before (bitsOf x) x)) (first-is (bitsOf x) (x .a % 2 ^ bitsOf x) (x .q) ∙ partial-is (bitsOf x) (x .a % 2 ^ bitsOf x) 0 (x .q) 0 h))
     (λ x. shift-above-y x _) (λ x. shift-above-q x _) (λ x. refl)
 
 step-acts : (n A : ℕ) → 2 ≤ n → Acts steady n A 0x5c (λ s. Unit) (mulStep (2 ^ n) (A % 2 ^ n))
