@@ -1,5 +1,5 @@
 -- Arithmetic instructions (tables 10-1 and 10-2) but for the decimal corrections, in opcode order. Status is of the selected bytes, but for the
--- nibble bits, which are those of the whole words.
+-- nibble bits, which are those of the whole words (M17), on every page (M18).
 use Prim.Native.Nat.{ℕ, _+_, _-_}
 use Rattle.bits.specs.Bits.{xor, merged, notOf, carryOf, overflowOf}
 use Rattle.machine.specs.declared.Inputs.{Inputs}
@@ -21,8 +21,8 @@ added x p r c i nibbles u =
 unfoldable pub sum : Inputs → ℕ → ℕ → ℕ → ℕ → ℕ → Outputs
 sum x p r c i u = added x p r c i (nibbleCarries 8 p r c) u
 
--- p - r where c is 1, and one less where it is 0: p, the complement of r, and c. C is the EX-OR of carryout and borrow mode. With BCD nibble
--- borrows.
+-- p - r where c is 1, and one less where it is 0: p, the complement of r, and c. C is the EX-OR of carryout and borrow mode (M20). With BCD
+-- nibble borrows.
 unfoldable pub difference : Inputs → ℕ → ℕ → ℕ → ℕ → Outputs
 difference x p r c u = added x p (notOf r) c (x .borrow) (nibbleBorrows 8 p r (1 - c)) u
 
@@ -115,11 +115,11 @@ INCR4-A x = increment x (x .a) 4
 abbrev pub INCR4-B : Inputs → Outputs
 INCR4-B x = increment x (x .b) 4
 
--- the carry that SUBC and SUBRC take in, macro or micro, is inverted before it enters the adder in borrow mode
+-- the carry that SUBC and SUBRC take in, macro or micro, is inverted before it enters the adder in borrow mode (M20)
 abbrev pub borrowIn : Inputs → ℕ
 borrowIn x = xor (carryIn x) (x .borrow)
 
--- 42. Carry is generated regardless of the state of borrow mode.
+-- 42. Carry is generated regardless of the state of borrow mode (M19).
 abbrev pub ADD : Inputs → Outputs
 ADD x = adding x (record { first = x .a; second = x .b; carry = 0; inverted = 0; unselected = x .b })
 

@@ -24,11 +24,12 @@ abbrev pub corrected : Inputs → ℕ → ℕ → ℕ → Outputs
 corrected x r c s =
     leaving x (merged (bitsOf x) r s) (withV (xor (topNibble x) (nextNibble x)) (withC c (zeroSign (bitsOf x) r (x .status))))
 
--- The correction word is added to the operand. C is the most significant nibble carry.
+-- The correction word is added to the operand. C is the most significant nibble carry, in either mode (M21).
 unfoldable pub sumCorrect : Inputs → ℕ → Outputs
 sumCorrect x s = corrected x (s + correction x) (topNibble x) s
 
--- The correction word is subtracted from the operand. C is the EX-NOR of the most significant nibble borrow and borrow mode.
+-- The correction word is subtracted from the operand. C is the EX-NOR of the most significant nibble borrow and borrow mode, not the borrow
+-- itself (M21).
 unfoldable pub diffCorrect : Inputs → ℕ → Outputs
 diffCorrect x s = corrected x (s + notOf (correction x) + 1) (1 - xor (topNibble x) (x .borrow)) s
 

@@ -24,7 +24,7 @@ flag t = pick t 1 0
 abbrev pub xor : ℕ → ℕ → ℕ
 xor f g = (f + g) % 2
 
--- Tables 3 and 5: how many bits a byte code I8 I7 selects. 00 is four bytes, 01 one, 10 two, 11 three
+-- Tables 3 and 5: how many bits a byte code I8 I7 selects, in that order (M47). 00 is four bytes, 01 one, 10 two, 11 three
 abbrev pub selected : ℕ → ℕ
 selected zero = 32
 selected (suc k) = 8 * suc k
@@ -77,7 +77,7 @@ rotatedUp k x = x % 2 ^ (32 - k) * 2 ^ k + x / 2 ^ (32 - k)
 abbrev pub rotatedDown : ℕ → ℕ → ℕ
 rotatedDown k x = rotatedUp (32 - k) x
 
--- ones in the w bits from bit p up; those above bit 31 are dropped
+-- ones in the w bits from bit p up; those above bit 31 are dropped (M38)
 unfoldable pub fieldMask : ℕ → ℕ → ℕ
 fieldMask p w = upBy p (2 ^ w - 1)
 

@@ -1,4 +1,5 @@
--- The lettered examples of document 01, a to m, worked out by the checker from the definitions: one set, one claim.
+-- The lettered examples of document 01, a to m, worked out by the checker from the definitions: one set, one claim. Each starts from a Q, a status
+-- register and a register for Y that differ from what is stated, so that a word which stores nothing misses it.
 use mathlib.Core.Path.{_≡_, refl}
 use mathlib.Core.List.{List, [], _∷_, _++_}
 use Prim.Native.Nat.{ℕ, zero, suc}
@@ -26,17 +27,24 @@ abbrev times : ℕ → Word → List Word
 times zero w = []
 times (suc k) w = w ∷ times k w
 
--- a list of words on three registers, with the given values in the first two and in Q, and the status register at zero
+-- a list of words from the given status register, on three registers, with the given values in the first two and in Q
+abbrev from : ℕ → List Word → ℕ → ℕ → ℕ → State
+from before ws a b q = execs ws (state (a ∷ b ∷ 0 ∷ []) (record { q = q; status = loaded before }))
+
+-- from the status register at zero
 abbrev after : List Word → ℕ → ℕ → ℕ → State
-after ws a b q = execs ws (state (a ∷ b ∷ 0 ∷ []) (record { q = q; status = loaded 0 }))
+after ws a b q = from 0 ws a b q
 
 -- a field operation on A and B, Y to register 2
 abbrev field : ℕ → ℕ → ℕ → ℕ → ℕ → State
 field opcode position width a b = after (word opcode 0 position width 0 1 2 ∷ []) a b 0
 
--- a byte operation of one word on A and B, Y to register 2
+-- a byte operation of one word on A and B, Y to register 2, from the given status register
+abbrev bytesFrom : ℕ → ℕ → ℕ → ℕ → ℕ → State
+bytesFrom before opcode code a b = from before (word opcode code 0 0 0 1 2 ∷ []) a b 0
+
 abbrev bytes : ℕ → ℕ → ℕ → ℕ → State
-bytes opcode code a b = after (word opcode code 0 0 0 1 2 ∷ []) a b 0
+bytes opcode code a b = bytesFrom 0 opcode code a b
 
 abbrev yOf : State → ℕ
 yOf t = readAt (t .file) 2
@@ -74,15 +82,15 @@ lettered =
     shows (yOf (field 0x7f 0x1e 4 0 0)) 0xc000_0000
     ∷ shows (yOf (field 0x7f 0x3e 4 0 0)) 0x3fff_ffff
     ∷ shows (yOf (field 0x7f 4 0 0 0)) 0xffff_fff0
-    -- d: NOT-A
+    -- d: NOT-A, from N 0 and Z 1
     ∷ shows (yOf (bytes 0x08 2 0x1234_5678 0)) 0x1234_a987
-    ∷ shows (bytes 0x08 2 0x1234_5678 0 .core .status .n) 1
-    ∷ shows (bytes 0x08 2 0x1234_5678 0 .core .status .z) 0
-    -- e: prioritize
-    ∷ shows (bytes 0x0c 2 0x0000_8000 0 .core .status .position) 0
-    ∷ shows (bytes 0x0c 2 0x0000_8000 0 .core .status .z) 0
-    ∷ shows (bytes 0x0c 2 0x0001_0000 0 .core .status .position) 0
-    ∷ shows (bytes 0x0c 2 0x0001_0000 0 .core .status .z) 1
+    ∷ shows (bytesFrom 0x0008_0000 0x08 2 0x1234_5678 0 .core .status .n) 1
+    ∷ shows (bytesFrom 0x0008_0000 0x08 2 0x1234_5678 0 .core .status .z) 0
+    -- e: prioritize, from position FF with Z 1, and with Z 0
+    ∷ shows (bytesFrom 0x0008_00ff 0x0c 2 0x0000_8000 0 .core .status .position) 0
+    ∷ shows (bytesFrom 0x0008_00ff 0x0c 2 0x0000_8000 0 .core .status .z) 0
+    ∷ shows (bytesFrom 0x0000_00ff 0x0c 2 0x0001_0000 0 .core .status .position) 0
+    ∷ shows (bytesFrom 0x0000_00ff 0x0c 2 0x0001_0000 0 .core .status .z) 1
     -- f: NOTF-A
     ∷ shows (yOf (field 0x70 0x02 0 0x1234_5678 0x9abc_def0)) 0xb72e_a61c
     ∷ shows (yOf (field 0x70 0x3e 0 0x1234_5678 0x9abc_def0)) 0xfb72_ea61
@@ -90,14 +98,14 @@ lettered =
     ∷ shows (yOf (field 0x72 0x3c 8 0x1234_5678 0xffff_ff00)) 0xffff_ff67
     -- h: LDSTAT-A, PASS-STAT
     ∷ shows (yOf (after status 0xffff_ffff 0 0)) 0xff7f_bfff
-    -- i, j: multiply
-    ∷ shows (bOf (after (multiply 1 3) 0xff 0 0xff)) 0xfe
-    ∷ shows (after (multiply 1 3) 0xff 0 0xff .core .q) 0x01
-    ∷ shows (bOf (after (multiply 0 15) 0xffff_ffff 0 0xffff_ffff)) 0xffff_fffe
-    ∷ shows (after (multiply 0 15) 0xffff_ffff 0 0xffff_ffff .core .q) 0x0000_0001
-    -- k: divide
-    ∷ shows (after (divide 1 7) 0x10 0 0xff .core .q) 0x0f
-    ∷ shows (bOf (after (divide 1 7) 0x10 0 0xff)) 0x0f
+    -- i, j: multiply, from M 1, which the first step does not look at
+    ∷ shows (bOf (from 0x0020_0000 (multiply 1 3) 0xff 0 0xff)) 0xfe
+    ∷ shows (from 0x0020_0000 (multiply 1 3) 0xff 0 0xff .core .q) 0x01
+    ∷ shows (bOf (from 0x0020_0000 (multiply 0 15) 0xffff_ffff 0 0xffff_ffff)) 0xffff_fffe
+    ∷ shows (from 0x0020_0000 (multiply 0 15) 0xffff_ffff 0 0xffff_ffff .core .q) 0x0000_0001
+    -- k: divide, from M 0 and S 1, which the first step sets and resets
+    ∷ shows (from 0x0040_0000 (divide 1 7) 0x10 0 0xff .core .q) 0x0f
+    ∷ shows (bOf (from 0x0040_0000 (divide 1 7) 0x10 0 0xff)) 0x0f
     -- l: decimal 55 + 55, before and after the correction
     ∷ shows (yOf (bytes 0x42 1 0x55 0x55)) 0xaa
     ∷ shows (yOf (after decimal 0x55 0x55 0)) 0x10

@@ -17,7 +17,7 @@ use Rattle.fields.specs.NBit.{NB-SN-SHA, NB-SN-SHB, NB-0F-SHA, NB-0F-SHB, NBROT
 use Rattle.fields.specs.BitManipulation.{EXTBIT-A, EXTBIT-B, SETBIT-A, SETBIT-B, RSTBIT-A, RSTBIT-B, SETBIT-STAT, RSTBIT-STAT, EXTBIT-STAT}
 use Rattle.fields.specs.Field.{NOTF-AL-B, PASSF-AL-B, NOTF-A, NOTF-AL-A, PASSF-A, PASSF-AL-A, ORF-A, ORF-AL-A, XORF-A, XORF-AL-A, ANDF-A, ANDF-AL-A, EXTF-A, EXTF-B, EXTF-AB, EXTF-BA, PASS-MASK}
 
--- what chapter 2 has for a number: the operation that its page describes, or no page
+-- what chapter 2 has for a number: the operation that its page describes, or no page (M46)
 pub data Page : Type 0 where
   page : (Inputs → Outputs) → Page
   no-page : Page

@@ -1,5 +1,5 @@
--- Divide steps (table 11-1, appendix B), in opcode order. Unselected bytes of Y come from B, unselected bytes of Q are not affected; C is the
--- carry out of F in either mode; the bit shifted out of F is its top selected bit.
+-- Divide steps (table 11-1; the lists of appendix B, M14), in opcode order. Unselected bytes of Y come from B, unselected bytes of Q are not affected; C is the
+-- carry out of F in either mode (M6); the bit shifted out of F is its top selected bit (M5).
 use mathlib.Core.List.{List, [], _∷_}
 use Prim.Native.Nat.{ℕ, _+_, _-_, _%_, _^_}
 use Rattle.bits.specs.Bits.{choose, xor, signOf, zeroOf, merged, notOf, carryOf, overflowOf, putBit}
@@ -10,7 +10,7 @@ use Rattle.machine.specs.Inputs.{bitsOf, leaving, zeroSign}
 use Rattle.divide.specs.Steps.{formed, carryOut, stepCarry, stepLink, upshifted, signQ, upshiftedQ, signedBit, extendedSign, unsignedBit, printedTest, remainderTest}
 
 -- 4E. B is upshifted, the sign bit of Q shifted in; the exclusive NOR of the signs of A and B goes into Q and M; S and L get the bit shifted
--- out of B. Z and N are of Y.
+-- out of B. Z and N are of Y (M8).
 unfoldable pub SDIVFIRST : Inputs → Outputs
 SDIVFIRST x =
     let r : ℕ = upshifted (x .b) (signQ x) in
@@ -32,7 +32,8 @@ UDIVFIRST x =
       status = withS 0 (withM 1 (withL (signOf (bitsOf x) (x .b)) (zeroSign (bitsOf x) r (x .status))));
     }
 
--- 50. F is upshifted by one bit, the sign bit of Q shifted in; the new quotient bit goes into Q and M. Z and N are of Y; S is not altered.
+-- 50. F is upshifted by one bit, the sign bit of Q shifted in; the new quotient bit goes into Q and M. Z and N are of Y (M8); S is not
+-- altered.
 unfoldable pub SDIVSTEP : Inputs → Outputs
 SDIVSTEP x =
     let f : ℕ = formed x (x .status .m) in
@@ -57,7 +58,7 @@ SDIVLAST1 x =
       status = withM (signedBit x f) (withC (carryOut x (bitsOf x) (x .status .m)) (zeroSign (bitsOf x) f (x .status)));
     }
 
--- 52. Y, C, L and Z are those of the full word; the byte code picks Q's bytes and its sign bit alone. Q is upshifted with zero fill.
+-- 52. Y, C, L and Z are those of the full word (M12); the byte code picks Q's bytes and its sign bit alone. Q is upshifted with zero fill.
 unfoldable pub MPDIVSTEP1 : Inputs → Outputs
 MPDIVSTEP1 x =
     let f : ℕ = formed x (x .status .m) in
@@ -84,8 +85,8 @@ MPSDIVSTEP3 x =
           (withZ (zeroOf (bitsOf x) r) (x .status))));
     }
 
--- 54. As SDIVSTEP, with A zero extended and B extended by S, so that the new quotient bit is the complement of the sign of the extended result;
--- the bit shifted out of F goes to L and S. N is not affected.
+-- 54. As SDIVSTEP, with A zero extended and B extended by S, so that the new quotient bit is the complement of the sign of the extended result
+-- (M3); the bit shifted out of F goes to L and S (M5). N is not affected (M8).
 unfoldable pub UDIVSTEP : Inputs → Outputs
 UDIVSTEP x =
     let f : ℕ = formed x (x .status .m) in
@@ -102,7 +103,7 @@ UDIVSTEP x =
           (withZ (zeroOf (bitsOf x) r) (x .status)))));
     }
 
--- 55. F is output as it is; N is the sign of the extended result, and S is reset. L stays.
+-- 55. F is output as it is; N is the sign of the extended result, M its complement (M3, M4), and S is reset. L stays.
 unfoldable pub UDIVLAST : Inputs → Outputs
 UDIVLAST x =
     let f : ℕ = formed x (x .status .m) in
@@ -118,14 +119,14 @@ UDIVLAST x =
           (withN (extendedSign x c) (x .status)))));
     }
 
--- 56. The byte code is ignored: all is on the full word. Q is not affected or used.
+-- 56. The byte code is ignored: all is on the full word (M12). Q is not affected or used.
 unfoldable pub MPDIVSTEP2 : Inputs → Outputs
 MPDIVSTEP2 x =
     let f : ℕ = formed x (stepCarry x) in
     let y : ℕ = upshifted f (stepLink x) % 2 ^ 32 in
     leaving x y (withL (signOf 32 f) (withC (carryOut x 32 (stepCarry x)) (withZ (zeroOf 32 y) (x .status))))
 
--- 57. As MPSDIVSTEP3, with the quotient bit and S of UDIVSTEP.
+-- 57. As MPSDIVSTEP3, with the quotient bit and S of UDIVSTEP (M3, M5).
 unfoldable pub MPUDIVSTP3 : Inputs → Outputs
 MPUDIVSTP3 x =
     let f : ℕ = formed x (stepCarry x) in
@@ -142,7 +143,7 @@ MPUDIVSTP3 x =
           (withZ (zeroOf (bitsOf x) r) (x .status)))));
     }
 
--- 58. F is B + A or B - A by M where the test holds, else B; C is its carry out, and 0 where F is B. No other flag changes.
+-- 58. F is B + A or B - A by M where the test (M1) holds, else B; C is its carry out, and 0 where F is B (M7). No other flag changes.
 unfoldable pub REMCORR : Inputs → Outputs
 REMCORR x =
     leaving x (merged (bitsOf x) (choose (remainderTest x) (x .b) (formed x (x .status .m))) (x .b))
@@ -152,7 +153,7 @@ REMCORR x =
 abbrev pub oneOperand : Inputs → ℕ
 oneOperand x = choose (x .status .m) (notOf 1) 1
 
--- 59. F is B - 1 or B + 1 by M where Z EXOR N EXOR S is 1, else B; C and V are its carry out and overflow, and 0 where F is B.
+-- 59. F is B - 1 or B + 1 by M where Z EXOR N EXOR S is 1 (M2), else B; C and V are its carry out and overflow, and 0 where F is B (M7).
 unfoldable pub QUOCORR : Inputs → Outputs
 QUOCORR x =
     let c : ℕ = 1 - x .status .m in
@@ -161,7 +162,7 @@ QUOCORR x =
     (withC (choose (printedTest x) 0 (carryOf (bitsOf x) (x .b) (oneOperand x) c)) (x .status)))
 
 -- 5A. The divisor's sign is the sign bit of Q xor S: A is subtracted from B where it is 1, else added. Z is set if the result is zero and S
--- is 1. Nothing else changes.
+-- is 1. Nothing else changes (M9).
 unfoldable pub SDIVLAST2 : Inputs → Outputs
 SDIVLAST2 x =
     let d : ℕ = xor (signQ x) (x .status .s) in

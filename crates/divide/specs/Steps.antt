@@ -8,14 +8,14 @@ use Rattle.machine.specs.Inputs.{bitsOf}
 abbrev pub operand : Inputs → ℕ
 operand x = choose (x .status .m) (x .a) (notOf (x .a))
 
--- F with carry in c, and the carry out of it at n bits
+-- F with carry in c, and the carry out of it at n bits, in borrow mode too (M6)
 abbrev pub formed : Inputs → ℕ → ℕ
 formed x c = x .b + operand x + c
 
 abbrev pub carryOut : Inputs → ℕ → ℕ → ℕ
 carryOut x n c = carryOf n (x .b) (operand x) c
 
--- the multiprecision steps: macro select 0 takes macro carry and macro link, 1 takes the C and L flags, as their pages have it
+-- the multiprecision steps: macro select 0 takes macro carry and macro link, 1 takes the C and L flags, as their pages have it (M13)
 abbrev pub stepCarry : Inputs → ℕ
 stepCarry x = choose (x .select) (x .carry) (x .status .c)
 
@@ -37,7 +37,8 @@ upshiftedQ x f = merged (bitsOf x) (upshifted (x .q) f) (x .q)
 abbrev pub signedBit : Inputs → ℕ → ℕ
 signedBit x v = 1 - xor (signOf (bitsOf x) (x .a)) (signOf (bitsOf x) v)
 
--- the sign of the result extended by one bit, of an unsigned division: M xor S xor the carry out c. The new quotient bit is its complement.
+-- the sign of the result extended by one bit, of an unsigned division: M xor S xor the carry out c. The new quotient bit is its complement,
+-- whose overbar the pages have lost (M3).
 abbrev pub extendedSign : Inputs → ℕ → ℕ
 extendedSign x c = (x .status .m + x .status .s + c) % 2
 
@@ -48,6 +49,6 @@ unsignedBit x c = 1 - extendedSign x c
 abbrev pub printedTest : Inputs → ℕ
 printedTest x = (x .status .z + x .status .n + x .status .s) % 2
 
--- REMCORR's test: as printed, but with N = 0 and S = 0 there is nothing to correct, whatever Z is
+-- REMCORR's test: as printed, but with N = 0 and S = 0 there is nothing to correct, whatever Z is (M1)
 abbrev pub remainderTest : Inputs → ℕ
 remainderTest x = choose (max (x .status .n) (x .status .s)) 0 (printedTest x)

@@ -8,7 +8,7 @@ use Rattle.machine.specs.Status.{loaded, withN, withZ, withL}
 use Rattle.machine.specs.Inputs.{readBy, leaving}
 use Rattle.fields.specs.Position.{placeOf, sixthOf}
 
--- The sign bit of position, if true, inverts the extracted bit.
+-- The sign bit of position, if true, inverts the extracted bit, which the low five bits name (M40).
 abbrev pub extracted : Inputs → ℕ → ℕ
 extracted x s = xor (bitOf (placeOf x) s) (sixthOf x)
 
@@ -24,7 +24,7 @@ EXTBIT-A x = extractBit x (x .a)
 abbrev pub EXTBIT-B : Inputs → Outputs
 EXTBIT-B x = extractBit x (x .b)
 
--- the source with the bit set to f; the given Z; N is bit 31 of Y
+-- the source with the bit set to f; the given Z, which does not test the result (M34); N is bit 31 of Y
 unfoldable pub putInto : Inputs → ℕ → ℕ → ℕ → Outputs
 putInto x s f z =
     let y : ℕ = putBit (placeOf x) f s in
@@ -46,8 +46,8 @@ RSTBIT-A x = putInto x (x .a) 0 1
 abbrev pub RSTBIT-B : Inputs → Outputs
 RSTBIT-B x = putInto x (x .b) 0 1
 
--- The bit of the status register is set to f, the others are unaffected, and bits 13, 14, 15 and 23 are read-only. The new value also appears on
--- the Y bus.
+-- The bit of the status register is set to f, the others are unaffected, and bits 13, 14, 15 and 23 are read-only (M31). The new value also
+-- appears on the Y bus.
 unfoldable pub putStatus : Inputs → ℕ → Outputs
 putStatus x f =
     let s : Status = loaded (putBit (placeOf x) f (readBy x (x .status))) in
@@ -61,7 +61,7 @@ SETBIT-STAT x = putStatus x 1
 abbrev pub RSTBIT-STAT : Inputs → Outputs
 RSTBIT-STAT x = putStatus x 0
 
--- 7E. As EXTBIT, of the status register as it is read; no bit of it other than L changes.
+-- 7E. As EXTBIT, of the status register as it is read; no bit of it other than L changes, Z neither (M28).
 unfoldable pub EXTBIT-STAT : Inputs → Outputs
 EXTBIT-STAT x =
     let f : ℕ = extracted x (readBy x (x .status)) in

@@ -11,7 +11,7 @@ use Rattle.fields.specs.Position.{placeOf, sixthOf, displaced, wholeResu
 use Rattle.fields.specs.NBit.{NB-SN-SHA, NB-SN-SHB, NB-0F-SHA, NB-0F-SHB, NBROT-A, NBROT-B}
 use Rattle.fields.specs.BitManipulation.{EXTBIT-A, EXTBIT-B, SETBIT-A, SETBIT-B, RSTBIT-A, RSTBIT-B, SETBIT-STAT, RSTBIT-STAT, EXTBIT-STAT}
 
--- an aligned field starts at the low five position bits
+-- an aligned field starts at the low five position bits, whatever the sixth is (M41)
 abbrev pub alignedField : Inputs → ℕ
 alignedField x = fieldMask (placeOf x) (widthOf x)
 
@@ -19,11 +19,11 @@ alignedField x = fieldMask (placeOf x) (widthOf x)
 abbrev pub movedField : Inputs → ℕ
 movedField x = displaced x (λ k. fieldMask k (widthOf x)) (λ k. fieldMask 0 (widthOf x))
 
--- and its source is upshifted to the position, or, where that is negative, rotated down
+-- and its source is upshifted to the position, or, where that is negative, rotated down, not shifted (M36)
 abbrev pub moved : Inputs → ℕ → ℕ
 moved x s = displaced x (λ k. upBy k s) (λ k. rotatedDown k s)
 
--- r in the field, u in the remaining bits of Y; Z according to the contents of the field, N to the most significant bit of Y
+-- r in the field, u in the remaining bits of Y; Z according to the contents of the field, N to the most significant bit of Y (M37)
 unfoldable pub inField : Inputs → ℕ → ℕ → ℕ → Outputs
 inField x field r u =
     let y : ℕ = maskedOf field r u in
@@ -92,7 +92,7 @@ beside high low = high * 2 ^ 32 + low
 unfoldable pub rotatedPair : ℕ → ℕ → ℕ
 rotatedPair k v = v % 2 ^ (64 - k) * 2 ^ k + v / 2 ^ (64 - k)
 
--- The concatenation is rotated up or down by position; the low bits that the width names appear on Y, the rest being zero.
+-- The concatenation is rotated up or down by position; the low bits that the width names appear on Y, the rest being zero (M39).
 unfoldable pub extractPair : Inputs → ℕ → ℕ → Outputs
 extractPair x high low =
     wholeResult x (displaced x (λ k. rotatedPair k (beside high low)) (λ k. rotatedPair (64 - k) (beside high low)) % 2 ^ widthOf x)
@@ -105,7 +105,7 @@ EXTF-AB x = extractPair x (x .a) (x .b)
 abbrev pub EXTF-BA : Inputs → Outputs
 EXTF-BA x = extractPair x (x .b) (x .a)
 
--- 7F. Ones in the field, zeros elsewhere; the sixth position bit inverts all 32 bits. No flag changes.
+-- 7F. Ones in the field, zeros elsewhere; the sixth position bit inverts all 32 bits (M41). No flag changes.
 unfoldable pub PASS-MASK : Inputs → Outputs
 PASS-MASK x = leaving x (choose (sixthOf x) (alignedField x) (notOf (alignedField x))) (x .status)
 

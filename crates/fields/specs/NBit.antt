@@ -9,7 +9,7 @@ use Rattle.fields.specs.Position.{placeOf, displaced, wholeResult}
 unfoldable pub downBy : ℕ → ℕ → ℕ → ℕ
 downBy k s f = s / 2 ^ k + f * (2 ^ 32 - 2 ^ (32 - k))
 
--- an upshift fills with zeros, a downshift with f
+-- an upshift fills with zeros, a downshift with f; neither rotates (M26)
 unfoldable pub shift : Inputs → ℕ → ℕ → Outputs
 shift x s f = wholeResult x (displaced x (λ k. upBy k s) (λ k. downBy k s f))
 
@@ -29,7 +29,7 @@ NB-0F-SHA x = shift x (x .a) 0
 abbrev pub NB-0F-SHB : Inputs → Outputs
 NB-0F-SHB x = shift x (x .b) 0
 
--- The sign of the position input is ignored: its low five bits are the magnitude of a circular upshift.
+-- The sign of the position input is ignored: its low five bits are the magnitude of a circular upshift (M40).
 unfoldable pub rotate : Inputs → ℕ → Outputs
 rotate x s = wholeResult x (rotatedUp (placeOf x) s)
 

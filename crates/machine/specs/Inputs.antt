@@ -10,15 +10,15 @@ use Rattle.machine.specs.Status.{Good, asRead, withN, withZ}
 abbrev pub bitsOf : Inputs → ℕ
 bitsOf x = selected (x .code)
 
--- Table 6: I8 low takes the position from the word, high from status bits 5 to 0
+-- Table 6: I8 low takes the position from the word, high from status bits 5 to 0, in every operation from 60 on (M42)
 abbrev pub positionOf : Inputs → ℕ
 positionOf x = choose (x .code / 2) (x .position) (x .status .position % 64)
 
--- I7 low takes the width from the word, high from status bits 12 to 8
+-- I7 low takes the width from the word, high from status bits 12 to 8 (M42)
 abbrev pub givenWidth : Inputs → ℕ
 givenWidth x = choose (x .code % 2) (x .width) (x .status .width)
 
--- Table 2: width 0 stands for 32
+-- Table 2: width 0 stands for 32 (M38)
 abbrev pub fullWidth : ℕ → ℕ
 fullWidth zero = 32
 fullWidth (suc w) = suc w
@@ -26,11 +26,11 @@ fullWidth (suc w) = suc w
 abbrev pub widthOf : Inputs → ℕ
 widthOf x = fullWidth (givenWidth x)
 
--- macro select 1 takes the macro carry in place of the C flag (ADDC, SUBC, SUBRC)
+-- macro select 1 takes the macro carry in place of the C flag: ADDC, SUBC, SUBRC (M22)
 abbrev pub carryIn : Inputs → ℕ
 carryIn x = choose (x .select) (x .status .c) (x .carry)
 
--- and the macro link in place of the L flag (DN1-LF)
+-- and the macro link in place of the L flag: DN1-LF (M22)
 abbrev pub linkIn : Inputs → ℕ
 linkIn x = choose (x .select) (x .status .l) (x .link)
 

@@ -6,7 +6,7 @@ use Rattle.bits.specs.Bits.{xor}
 use Rattle.machine.specs.declared.Status.{Status}
 
 -- ---- the relational bits, read only, under figure 3's names
--- 13: C or Z
+-- 13: C or Z, in carry mode too, where two pages have (not C) or Z (M27)
 abbrev pub UNSIGNED-LE : Status → ℕ
 UNSIGNED-LE s = max (s .c) (s .z)
 
@@ -47,7 +47,7 @@ asRead s =
     + s .s * 2 ^ 22
     + gathered 8 (s .nibbles) * 2 ^ 24
 
--- a word loaded into the register: its bits 13, 14, 15 and 23 are ignored
+-- a word loaded into the register: its bits 13, 14, 15 and 23 are ignored. V is from bit 18, Z from bit 19 (M30)
 unfoldable pub loaded : ℕ → Status
 loaded x =
     record {

@@ -1,4 +1,4 @@
--- Data movement instructions (tables 6-1 to 6-3), in opcode order.
+-- Data movement instructions (tables 6-1 to 6-3), in opcode order. Their unselected bytes follow rules of their own (M43).
 use Prim.Native.Nat.{ℕ}
 use Rattle.bits.specs.Bits.{signOf, merged, copies}
 use Rattle.machine.specs.declared.Inputs.{Inputs}
@@ -40,7 +40,8 @@ PASS-STAT x = leaving x (merged (bitsOf x) (readBy x (x .status)) (x .b)) (x .st
 unfoldable pub PASS-Q : Inputs → Outputs
 PASS-Q x = leaving x (merged (bitsOf x) (x .q) (x .b)) (x .status)
 
--- The selected bytes are loaded into Q and pass onto the Y bus; the unselected bytes of Q stay, and pass too. Z and N of the selected bytes.
+-- The selected bytes are loaded into Q and pass onto the Y bus; the unselected bytes of Q stay, and pass too. Z and N of the selected bytes,
+-- so that Q is put back before the status (M32).
 unfoldable pub loadQ : Inputs → ℕ → Outputs
 loadQ x s =
     let q : ℕ = merged (bitsOf x) s (x .q) in
@@ -63,7 +64,7 @@ abbrev pub MERGEB-A : Inputs → Outputs
 MERGEB-A x = result x (x .b) (x .a)
 
 -- The selected bytes are loaded into the status register, the others of it are not affected; the Y bus shows the operand's selected bytes
--- as they are, and the status register's other bytes. STATUS <13, 14, 15, 23> cannot be written.
+-- as they are (M29), and the status register's other bytes. STATUS <13, 14, 15, 23> cannot be written.
 unfoldable pub loadStatus : Inputs → ℕ → Outputs
 loadStatus x s =
     let y : ℕ = merged (bitsOf x) s (readBy x (x .status)) in

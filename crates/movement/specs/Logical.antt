@@ -20,7 +20,8 @@ NOT-B x = result x (notOf (x .b)) (x .b)
 abbrev pub ZERO : Inputs → Outputs
 ZERO x = result x 0 (x .b)
 
--- 3D. The selected bits are forced to the N flag, whose state is checked in the status register. Z is set if N equals 0; N stays.
+-- 3D. The selected bits are forced to the N flag, whose state is checked in the status register, and not to the sign of B (M33). Z is set if N
+-- equals 0; N stays.
 unfoldable pub SIGN : Inputs → Outputs
 SIGN x = leaving x (merged (bitsOf x) (copies (x .status .n)) (x .b)) (withZ (1 - x .status .n) (x .status))
 

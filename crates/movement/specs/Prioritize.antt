@@ -7,7 +7,7 @@ use Rattle.machine.specs.Status.{withZ, withPosition}
 use Rattle.machine.specs.Inputs.{bitsOf, leaving}
 
 -- The location of the highest one among the selected bits, counted from the top one down, on Y and in STATUS <7:0>. Z tells the two zeros
--- apart: it is set if no selected bit is one.
+-- apart: it is set if no selected bit is one, whatever Y is (M35).
 unfoldable pub prioritize : Inputs → ℕ → Outputs
 prioritize x s =
     let code : ℕ = priorityOf (bitsOf x) s in

@@ -1,4 +1,4 @@
--- Multiply steps (table 12-1, appendix B), in opcode order: the modified Booth algorithm, two bits a step. The ALU is internally extended by
+-- Multiply steps (table 12-1; the lists of appendix B, M14), in opcode order: the modified Booth algorithm, two bits a step. The ALU is internally extended by
 -- two bits at the byte boundary, so that a value marked * is a number below 2 ^ (n + 2).
 use mathlib.Core.List.{List, [], _∷_}
 use Prim.Native.Nat.{ℕ, zero, suc, _+_, _-_, _*_, _/_, _%_, _^_}
@@ -80,7 +80,7 @@ UMULFIRST x = firstStep x (zeroExtended (bitsOf x) (x .a))
 abbrev pub UMULSTEP : Inputs → Outputs
 UMULSTEP x = step x (zeroExtended (bitsOf x) (x .a))
 
--- 5D. A is added once more where M is set. Z is of the selected bytes; Q and the other flags stay.
+-- 5D. A is added once more where M is set. Z is of the selected bytes; Q and the other flags stay (M10).
 unfoldable pub UMULLAST : Inputs → Outputs
 UMULLAST x =
     let r : ℕ = choose (x .status .m) (x .b) (x .b + x .a) in

@@ -1,2 +1,2 @@
--- These definitions assume nothing.
+-- These definitions assume nothing. A mark such as (M27) names the entry of docs/MANUAL.md that says how the page is read.
 pub mod SingleBit

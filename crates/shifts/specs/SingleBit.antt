@@ -1,5 +1,5 @@
 -- Single-bit shift instructions (tables 8-1 and 8-2), in opcode order. Unselected bytes of Y are the source's, unselected bytes of Q are not
--- affected; Z and N are of the selected bytes of Y.
+-- affected; Z and N are of the selected bytes of Y, over Q too (M25).
 use mathlib.Core.List.{List, [], _∷_}
 use Prim.Native.Nat.{ℕ, _+_, _-_, _*_, _/_, _%_, _^_}
 use Rattle.bits.specs.Bits.{xor, signOf, merged}
@@ -91,7 +91,7 @@ DN1-LF-AQ x = downQ x (x .a) (linkIn x)
 abbrev pub DN1-LF-BQ : Inputs → Outputs
 DN1-LF-BQ x = downQ x (x .b) (linkIn x)
 
--- 2C to 2F: the sign bit of the operand is shifted in
+-- 2C to 2F: the sign bit of the operand is shifted in, not the N flag (M23)
 abbrev pub DN1-AR-A : Inputs → Outputs
 DN1-AR-A x = down x (x .a) (signOf (bitsOf x) (x .a))
 
@@ -130,7 +130,7 @@ UP1-1F-AQ x = upQ x (x .a) 1
 abbrev pub UP1-1F-BQ : Inputs → Outputs
 UP1-1F-BQ x = upQ x (x .b) 1
 
--- 38 to 3B: link fill, from the L flag; these pages have no macro note
+-- 38 to 3B: link fill, from the L flag; these pages have no macro note (M24)
 abbrev pub UP1-LF-A : Inputs → Outputs
 UP1-LF-A x = up x (x .a) (x .status .l)
 
