@@ -61,7 +61,7 @@ SETBIT-STAT x = putStatus x 1
 abbrev pub RSTBIT-STAT : Inputs → Outputs
 RSTBIT-STAT x = putStatus x 0
 
--- 7E. As EXTBIT, of the status register as it is read; no bit of it other than L changes, Z neither (M28).
+-- 7E. As EXTBIT, of the status register as it is read (M27); no bit of it other than L changes, Z neither (M28).
 unfoldable pub EXTBIT-STAT : Inputs → Outputs
 EXTBIT-STAT x =
     let f : ℕ = extracted x (readBy x (x .status)) in

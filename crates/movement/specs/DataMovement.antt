@@ -32,7 +32,7 @@ SIGN-EXTA x = signExtend x (x .a)
 abbrev pub SIGN-EXTB : Inputs → Outputs
 SIGN-EXTB x = signExtend x (x .b)
 
--- 04. The status register as it is read; unselected bytes from B. No flag changes.
+-- 04. The status register as it is read, bit 13 with no regard to borrow mode (M27); unselected bytes from B. No flag changes.
 unfoldable pub PASS-STAT : Inputs → Outputs
 PASS-STAT x = leaving x (merged (bitsOf x) (readBy x (x .status)) (x .b)) (x .status)
 
