@@ -20,7 +20,7 @@ abbrev pub minus : ℕ → ℕ → ℕ
 minus n v = 2 ^ (n + 3) - v
 
 -- Based on the values of Q1 and Q0, the value F* of a first step: the rows of UMULFIRST's page, and of SMULFIRST's, whose last row is printed
--- for 01 once more (M11).
+-- for 01 once more (M11). A bit is `zero`, or `suc` and so 1.
 unfoldable pub firstRow : ℕ → ℕ → ℕ → ℕ → ℕ
 -- 00: 0
 firstRow n a zero zero = 0
