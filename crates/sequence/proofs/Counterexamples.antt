@@ -10,7 +10,7 @@ use Rattle.machine.specs.Status.{spreadOut, loaded}
 use Rattle.arithmetic.specs.Nibbles.{nibbleCarries}
 use Rattle.arithmetic.specs.Arithmetic.{sum}
 use Rattle.arithmetic.specs.Decimal.{sumCorrect}
-use Rattle.multiply.specs.Multiply.{booth, partial, firstStep, step, UMULLAST}
+use Rattle.multiply.specs.Multiply.{firstRow, stepRow, firstPartial, partial, firstStep, step, UMULLAST}
 use Rattle.divide.specs.Divide.{UDIVFIRST, UDIVSTEP, UDIVLAST, REMCORR, QUOCORR}
 use Rattle.chip.specs.Glossary.{performOf}
 use Rattle.chip.specs.Lists.{State, state, readAt, storeAt, stepOf, execs}
@@ -32,7 +32,7 @@ leaves opcodes a q = (readAt (after opcodes (given a q) .file) 1, after opcodes 
 
 -- ---- multiply: FF by FF is FE01, example i of document 01
 pub multiply-leaves : leaves (multiplyOpcodes 1) 0xff 0xff ≡ (0xfe, 0x01)
-unfolding performOf stepOf execs readAt storeAt spreadOut loaded zeroOf merged booth partial firstStep step UMULLAST wordsOf times
+unfolding performOf stepOf execs readAt storeAt spreadOut loaded zeroOf merged firstRow stepRow firstPartial partial firstStep step UMULLAST wordsOf times
 multiply-leaves = refl
 
 -- one UMULSTEP less: FB and 07
@@ -40,7 +40,7 @@ abbrev oneStepShort : List ℕ
 oneStepShort = 0x5b ∷ times (bitsIn 1 / 2 - 2) 0x5c (0x5d ∷ [])
 
 pub one-step-short-fails : leaves oneStepShort 0xff 0xff ≢ (0xfe, 0x01)
-unfolding performOf stepOf execs readAt storeAt spreadOut loaded zeroOf merged booth partial firstStep step UMULLAST wordsOf times
+unfolding performOf stepOf execs readAt storeAt spreadOut loaded zeroOf merged firstRow stepRow firstPartial partial firstStep step UMULLAST wordsOf times
 one-step-short-fails e = let h : _≡_ {A = ℕ} 0xfb 0xfe = ap (λ (p : ℕ × ℕ). p .0) e in absurd (omega arith)
 
 -- UMULLAST left out: FF and 01
@@ -48,7 +48,7 @@ abbrev lastAdditionLeftOut : List ℕ
 lastAdditionLeftOut = 0x5b ∷ times (bitsIn 1 / 2 - 1) 0x5c []
 
 pub last-addition-left-out-fails : leaves lastAdditionLeftOut 0xff 0xff ≢ (0xfe, 0x01)
-unfolding performOf stepOf execs readAt storeAt spreadOut loaded merged booth partial firstStep step wordsOf times
+unfolding performOf stepOf execs readAt storeAt spreadOut loaded merged firstRow stepRow firstPartial partial firstStep step wordsOf times
 last-addition-left-out-fails e = let h : _≡_ {A = ℕ} 0xff 0xfe = ap (λ (p : ℕ × ℕ). p .0) e in absurd (omega arith)
 
 -- the status register: 01 by 80 is 0080, and Z is 1, as the high half is zero
@@ -58,7 +58,7 @@ multiplied = after (multiplyOpcodes 1) (given 0x01 0x80)
 pub status-multiplied :
     (leaves (multiplyOpcodes 1) 0x01 0x80 ≡ (0x00, 0x80)) × (multiplied .core .status .z ≡ 1) ×
     (multiplied .core .status ≡ multipliedStatus 8 1 (given 0x01 0x80) multiplied)
-unfolding performOf stepOf execs readAt storeAt spreadOut loaded zeroOf merged booth partial firstStep step UMULLAST wordsOf times
+unfolding performOf stepOf execs readAt storeAt spreadOut loaded zeroOf merged firstRow stepRow firstPartial partial firstStep step UMULLAST wordsOf times
 status-multiplied = (refl, refl, refl)
 
 -- ---- divide: FF by 10 is 0F with remainder 0F, example k, and EF by 10 is 0E with remainder 0F
