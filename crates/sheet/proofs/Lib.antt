@@ -2,3 +2,4 @@
 pub mod Positions
 pub mod Table
 pub mod Answers
+pub mod Headings

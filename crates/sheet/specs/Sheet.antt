@@ -107,14 +107,20 @@ numberRows v n k =
 unfoldable pub wordRows : List ℕ → ℕ → ℕ → List Row
 wordRows s n k = numberRows (numberAt s k) n k
 
--- len bytes whose header is h, with so many bytes beside the sheet for each register that it declares: 4, 5, 6, 7
-abbrev pub headRows : ℕ → ℕ → ℕ → Given → List Row
-headRows beside len h file =
-    (differ (versionOf h) 1 gives Version at 0)
-    ∷ (badHeader h gives Header at 0)
-    ∷ (differ len (4 + 6 * countOf h + beside * registersOf h) gives Length at 0)
+-- a header h by itself: 4, 5
+abbrev pub openingRows : ℕ → List Row
+openingRows h = (differ (versionOf h) 1 gives Version at 0) ∷ (badHeader h gives Header at 0) ∷ []
+
+-- len bytes whose header is h, with so many bytes beside the sheet for each register that it declares: 6, 7
+abbrev pub sizeRows : ℕ → ℕ → ℕ → Given → List Row
+sizeRows beside len h file =
+    (differ len (4 + 6 * countOf h + beside * registersOf h) gives Length at 0)
     ∷ (fewer file (registersOf h) gives File at 0)
     ∷ []
+
+-- both: 4, 5, 6, 7
+abbrev pub headRows : ℕ → ℕ → ℕ → Given → List Row
+headRows beside len h file = openingRows h ++ sizeRows beside len h file
 
 -- 10, of a sheet of n executions
 abbrev pub startRows : Given → ℕ → List Row

@@ -7,7 +7,8 @@ ghost use Prim.Native.Nat.{_+_, _*_, _≤_};
 ghost use lib.ListN.{length};
 ghost use Rattle.reasons.specs.Reasons.{firstOf, noneHold, rowsBy, checkNumbers};
 ghost use Rattle.packing.specs.Registers.{Narrow};
-ghost use Rattle.sheet.specs.Sheet.{number4, countOf, registersOf, wordsOf, declaredOf, partOf, numberAt, wordAt, executionsOf, sheetOf, badHeader, fewer, numberRows, wordRows, headRows, startRows, checkBeside, checkOf, inputOf};
+ghost use Rattle.sheet.specs.Sheet.{number4, countOf, registersOf, wordsOf, declaredOf, partOf, numberAt, wordAt, executionsOf, sheetOf, badHeader, fewer, numberRows, wordRows, openingRows, headRows, startRows, checkBeside, checkOf, inputOf};
+ghost use Rattle.sheet.specs.Heading.{headingRows, headedBy, headingOf};
 
 // Which of two lent sheets a word comes from.
 pub enum Which {
@@ -19,6 +20,14 @@ pub enum Which {
 pub enum Given {
     Absent,
     Number(usize),
+}
+
+// What a header says: its three numbers where the check is good, else 0.
+pub struct Heading {
+    pub check: Check,
+    pub version: u32,
+    pub words: u32,
+    pub registers: u32,
 }
 
 // ---- the header and the words
@@ -143,10 +152,9 @@ fn check_position(start: Given, n: usize) -> Check
     Check::Good
 }
 
-// Reasons 4 to 7 of `len` bytes whose header is h, with so many bytes beside the sheet for each register that it declares.
-fn check_header(beside: usize, len: usize, h: u32, file: Given) -> Check
-    requires { ⌜ beside ≤ 4 ⌝ }
-    ensures { λ r. ⌜ r ≡ firstOf (headRows beside len h file) ⌝ }
+// Reasons 4 and 5 of a header h.
+fn check_opening(h: u32) -> Check
+    ensures { λ r. ⌜ r ≡ firstOf (openingRows h) ⌝ }
 {
     if h >> 28 != 1 {
         return Check::Bad {
@@ -159,6 +167,18 @@ fn check_header(beside: usize, len: usize, h: u32, file: Given) -> Check
             reason: Reason::Header,
             place: 0,
         };
+    }
+    Check::Good
+}
+
+// Reasons 4 to 7 of `len` bytes whose header is h, with so many bytes beside the sheet for each register that it declares.
+fn check_header(beside: usize, len: usize, h: u32, file: Given) -> Check
+    requires { ⌜ beside ≤ 4 ⌝ }
+    ensures { λ r. ⌜ r ≡ firstOf (headRows beside len h file) ⌝ }
+{
+    let opening = check_opening(h);
+    if let Check::Bad { reason, place } = opening {
+        return Check::Bad { reason, place };
     }
     let n = registers(h) as usize;
     if len != 4 + 6 * count(h) + beside * n {
@@ -312,4 +332,40 @@ pub fn check_input(x: &[u8]) -> Check
     ensures { λ r. ⌜ r ≡ inputOf (now (x .entry)) ⌝ }
 {
     check(4, x, Given::Absent, Given::Absent)
+}
+
+// ---- the header alone
+
+// A header refused: its numbers are 0.
+fn unread(reason: Reason, place: usize) -> Heading
+    ensures { λ r. ⌜ r ≡ headedBy (Check.Bad reason place) 0 ⌝ }
+{
+    Heading {
+        check: Check::Bad { reason, place },
+        version: 0,
+        words: 0,
+        registers: 0,
+    }
+}
+
+// The header in the first four bytes of `s`, for a caller that sizes its buffers by it: what follows it is not looked at.
+pub fn read_header(s: &[u8]) -> Heading
+    ensures { λ r. ⌜ r ≡ headingOf (now (s .entry)) ⌝ }
+    ensures numbers { λ r. ⌜ checkNumbers (r .check) ≡ checkNumbers (firstOf (headingRows (now (s .entry)))) ⌝ }
+{
+    let length = s.len();
+    if length < 4 {
+        return unread(Reason::Short, 0);
+    }
+    let h = header(s);
+    let opening = check_opening(h);
+    if let Check::Bad { reason, place } = opening {
+        return unread(reason, place);
+    }
+    Heading {
+        check: Check::Good,
+        version: h >> 28,
+        words: count(h) as u32,
+        registers: registers(h),
+    }
 }
