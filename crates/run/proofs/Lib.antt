@@ -1,3 +1,4 @@
 -- These proofs assume nothing.
 pub mod Laws
 pub mod Parts
+pub mod Stepping

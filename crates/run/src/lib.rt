@@ -1,4 +1,5 @@
 // Runs a sheet on a lent file of registers.
+use chip::SingleWord;
 use chip::Word;
 use machine::Core;
 use machine::Inputs;
@@ -11,16 +12,27 @@ ghost use mathlib.Core.Path.{_≡_};
 ghost use mathlib.Core.List.{[], _∷_};
 ghost use Prim.Native.Nat.{ℕ, _+_, _-_, _^_, _≤_, _<_, min};
 ghost use lib.ListN.{length};
-ghost use Rattle.machine.specs.Status.{Good};
 ghost use Rattle.reasons.specs.Reasons.{outcomeOf};
+ghost use Rattle.machine.specs.Status.{Good};
 ghost use Rattle.chip.specs.Lists.{state};
 ghost use Rattle.sheet.specs.Sheet.{sheetOf, wordsOf, wordAt, executionsOf, between, WordReady, Ready};
 ghost use Rattle.run.specs.Run.{Stepped, Went, ended, runOf, runNumbers, inParts};
+ghost use Rattle.run.specs.Step.{standing, halted, idle, performedOn, oneWordOf, oneWordOutcome};
 
 // What a run answers: done, with the number of words run as its place, or the reason and place of a refusal; Q and status.
 pub struct RunAnswer {
     pub reason: Reason,
     pub place: usize,
+    pub machine: Machine,
+}
+
+// What one word of a sheet answers: done, with the number of words run as its place, 1 or 0, or the reason and place of a refusal; Y and its
+// parity as a single word answers them; Q and status.
+pub struct StepAnswer {
+    pub reason: Reason,
+    pub place: usize,
+    pub y: u32,
+    pub parity: u32,
     pub machine: Machine,
 }
 
@@ -168,4 +180,87 @@ pub fn run(
         place: last.count,
         machine: core.leave(),
     }
+}
+
+// ---- one word by itself, for a front panel or a debugger
+// It goes through `chip::single_word`, not through `step`: with a second caller the compiler would no longer expand `step` into the loop of a run.
+
+// No word ran: Y and its parity are 0.
+fn no_word(reason: Reason, place: usize, machine: Machine) -> StepAnswer
+    ensures { λ r. ⌜ r ≡ idle reason place machine ⌝ }
+{
+    StepAnswer {
+        reason,
+        place,
+        y: 0,
+        parity: 0,
+        machine,
+    }
+}
+
+// What stands at the chip for a word: its fields, registers A and B, Q and status as they were handed in.
+fn at_chip(word: Word, file: &[u32], machine: Machine) -> SingleWord
+    requires { ⌜ WordReady (length (now file)) word ⌝ }
+    ensures { λ r. ⌜ r ≡ standing word (now (file .entry)) machine ⌝ }
+{
+    let first = word.a as usize;
+    let second = word.b as usize;
+    SingleWord {
+        opcode: word.opcode,
+        code: word.code,
+        position: word.position,
+        width: word.width,
+        select: word.select,
+        carry: word.carry,
+        link: word.link,
+        borrow: word.borrow,
+        a: file[first],
+        b: file[second],
+        q: machine.q,
+        status: machine.status,
+    }
+}
+
+// A word of a sheet that was checked, as a single word; Y is stored only when write is 1.
+fn perform(word: Word, file: &mut [u32], machine: Machine) -> StepAnswer
+    requires { ⌜ WordReady (length (now file)) word ⌝ }
+    ensures { λ r. ⌜ halted r (now (file .exit)) ≡ performedOn word (now (file .entry)) machine ⌝ }
+{
+    let single = chip::single_word(at_chip(word, file, machine));
+    let answer = StepAnswer {
+        reason: Reason::Done,
+        place: 1,
+        y: single.y,
+        parity: single.parity,
+        machine: Machine {
+            q: single.q,
+            status: single.status,
+        },
+    };
+    if word.write != 0 {
+        let to = word.y as usize;
+        file[to] = single.y;
+        return answer;
+    }
+    answer
+}
+
+// Runs execution `start` of a sheet, if there is one, and shows what it leaves.
+pub fn one_word(sheet: &[u8], file: &mut [u32], machine: Machine, start: usize) -> StepAnswer
+    ensures { λ r. ⌜ halted r (now (file .exit)) ≡ oneWordOf (now (sheet .entry)) (now (file .entry)) machine start ⌝ }
+    ensures numbers { λ r. ⌜ outcomeOf (r .reason) (r .place) ≡ oneWordOutcome (now (sheet .entry)) (length (now (file .entry))) start ⌝ }
+{
+    let check = sheet::check_start(sheet, file.len(), start);
+    if let Check::Bad { reason, place } = check {
+        return no_word(reason, place, machine);
+    }
+    if sheet::executions(sheet) <= start {
+        let core = machine.enter();
+        return no_word(Reason::Done, 0, core.leave());
+    }
+    perform(
+        sheet::word_at(sheet, sheet, Which::Main, start),
+        file,
+        machine,
+    )
 }

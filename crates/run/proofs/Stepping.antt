@@ -1,0 +1,109 @@
+-- One word of a sheet by itself: the ways in which it ends, that it is a run of one word, and that it has one outcome.
+use mathlib.Core.Path.{_≡_, refl, ap, ap₂, sym, _∙_}
+use mathlib.Core.List.{List, [], _∷_}
+use Prim.Native.Nat.{ℕ, zero, suc, _≤_, _<_}
+use native.Mathlib.Omega.{arith}
+use borrow.Author.Tests.{le-ltb}
+use lib.ListN.{length, set, take, drop}
+use Rattle.bits.specs.Bits.{choose}
+use Rattle.machine.specs.declared.Machine.{Machine}
+use Rattle.reasons.specs.declared.Reason.{Reason}
+use Rattle.reasons.specs.declared.Reason.the-variants.{Done}
+use Rattle.reasons.specs.declared.Check.{Check}
+use Rattle.reasons.specs.declared.Check.the-variants.{Good as Passed, Bad}
+use Rattle.reasons.specs.Reasons.{outcomeOf}
+use Rattle.chip.specs.declared.Word.{Word}
+use Rattle.chip.specs.declared.SingleAnswer.{SingleAnswer}
+use Rattle.chip.specs.Single.{outOfRange, performed, singleOf}
+use Rattle.chip.specs.Lists.{inputsOf, shownOf, stepOf, execs}
+use Rattle.chip.proofs.Files.{store-is}
+use Rattle.sheet.specs.Sheet.{executionsOf, checkOf, WordReady}
+use Rattle.sheet.specs.declared.Given.the-variants.{Number}
+use Rattle.sheet.proofs.Positions.{All, all-drop}
+use Rattle.sheet.proofs.Positions.All.{none, more}
+use Rattle.sheet.proofs.Table.{ready}
+use Rattle.run.specs.Run.{entering, Ended, ended, ran, runOf}
+use Rattle.run.specs.Step.{Halted, halted, idle, standing, leftBy, performedOn, firstOn, unless, oneWordOf, counted, oneWordOutcome}
+use Rattle.run.proofs.Laws.{each-ready}
+use Rattle.run.proofs.Parts.{run-refused, run-is}
+
+-- ---- a word on a file
+module _ (w : Word) (file : List ℕ) (m : Machine) where
+  -- the two ways of the word: Y stored, or not
+  module _ (a : SingleAnswer) (e : a ≡ singleOf (standing w file m)) where
+    pub performed-write : (w .write ≡ 0 → ⊥)
+        → halted (record { reason = Done; place = 1; y = a .y; parity = a .parity; machine = record { q = a .q; status = a .status } }) (set file (w .y) (a .y)) ≡ performedOn w file m
+    performed-write h =
+        ap (halted _) (store-is file (w .y) (a .y) ∙ stored (w .write) h file _) ∙ ap (leftBy w file) e
+      where
+        stored : (b : ℕ) → (b ≡ 0 → ⊥) → (x y : List ℕ) → y ≡ choose b x y
+        stored zero h x y = absurd (h refl)
+        stored (suc b) h x y = refl
+
+    pub performed-keep : w .write ≡ 0
+        → halted (record { reason = Done; place = 1; y = a .y; parity = a .parity; machine = record { q = a .q; status = a .status } }) file ≡ performedOn w file m
+    performed-keep z = ap (halted _) (sym (rw z refl)) ∙ ap (leftBy w file) e
+
+  -- a word that can be run is not refused as a single word
+  pub single-runs : {n : ℕ} → WordReady n w → singleOf (standing w file m) ≡ performed (inputsOf w (entering file m)) (shownOf w (entering file m))
+  unfolding singleOf outOfRange
+  single-runs r =
+      rw (
+        r .page,
+        le-ltb 3 (w .code) (omega (arith, r .range .code)),
+        le-ltb 63 (w .position) (omega (arith, r .range .position)),
+        le-ltb 31 (w .width) (omega (arith, r .range .width)),
+        le-ltb 1 (w .select) (omega (arith, r .range .select)),
+        le-ltb 1 (w .carry) (omega (arith, r .range .carry)),
+        le-ltb 1 (w .link) (omega (arith, r .range .link)),
+        le-ltb 1 (w .borrow) (omega (arith, r .range .borrow)),
+      )
+      refl
+
+-- ---- a step
+-- what a run answers of it: Y and parity are not told
+abbrev pub asRun : Halted → Ended
+asRun h = ended (record { reason = h .answer .reason; place = h .answer .place; machine = h .answer .machine }) (h .file)
+
+module _ (s file : List ℕ) (m : Machine) (start : ℕ) where
+  pub step-refused : (r : Reason) (p : ℕ) → checkOf s (Number (length file)) (Number start) ≡ Bad r p → halted (idle r p m) file ≡ oneWordOf s file m start
+  unfolding oneWordOf
+  step-refused r p e = sym (ap (λ (c : Check). unless c file m (firstOn (drop start (executionsOf s)) file m)) e)
+
+  pub step-is : (ws : List Word) → checkOf s (Number (length file)) (Number start) ≡ Passed → drop start (executionsOf s) ≡ ws
+      → firstOn ws file m ≡ oneWordOf s file m start
+  unfolding oneWordOf
+  step-is ws e d = sym (ap₂ (λ (c : Check) (l : List Word). unless c file m (firstOn l file m)) e d)
+
+  -- its reason and place have their numbers
+  pub step-numbers : (h : Halted) → h ≡ oneWordOf s file m start
+      → (h ≡ oneWordOf s file m start) × (outcomeOf (h .answer .reason) (h .answer .place) ≡ oneWordOutcome s (length file) start)
+  unfolding oneWordOf
+  step-numbers h e =
+      (e, ap (λ (x : Halted). outcomeOf (x .answer .reason) (x .answer .place)) e ∙ go (checkOf s (Number (length file)) (Number start)) (drop start (executionsOf s)))
+    where
+      go : (c : Check) (ws : List Word)
+          → outcomeOf (unless c file m (firstOn ws file m) .answer .reason) (unless c file m (firstOn ws file m) .answer .place) ≡ counted c (length (take 1 ws))
+      go Passed [] = refl
+      go Passed (w ∷ ws) = refl
+      go (Bad r p) ws = refl
+
+  -- It is a run of one word: file, Q, status, reason and place are those of a run with an allowance of 1.
+  pub step-runs : asRun (oneWordOf s file m start) ≡ runOf s file m start 1
+  unfolding oneWordOf execs stepOf
+  step-runs = go (checkOf s (Number (length file)) (Number start)) refl
+    where
+      first : (ws : List Word) → All (WordReady (length file)) ws → asRun (firstOn ws file m) ≡ ran (take 1 ws) (entering file m)
+      first [] none = refl
+      first (w ∷ ws) (more r a) = ap (λ (x : SingleAnswer). asRun (leftBy w file x)) (single-runs w file m r)
+
+      go : (c : Check) → checkOf s (Number (length file)) (Number start) ≡ c
+          → asRun (unless c file m (firstOn (drop start (executionsOf s)) file m)) ≡ runOf s file m start 1
+      go Passed e =
+          first (drop start (executionsOf s)) (all-drop _ start (executionsOf s) (each-ready s (length file) (ready s (length file) (Number start) e)))
+          ∙ sym (run-is s file m start 1 e)
+      go (Bad r p) e = run-refused s file m start 1 r p e
+
+  -- no second outcome, answer and file together, meets the promise of `one_word`
+  pub step-only : (x y : Halted) → x ≡ oneWordOf s file m start → y ≡ oneWordOf s file m start → x ≡ y
+  step-only x y e f = e ∙ sym f
