@@ -1,2 +1,3 @@
 -- These definitions assume nothing.
 pub mod Numbers
+pub mod Version

@@ -6,11 +6,15 @@ use Rattle.reasons.specs.declared.Outcome.{Outcome}
 use Rattle.chip.specs.declared.SingleAnswer.{SingleAnswer}
 use Rattle.packing.specs.declared.Unpacked.{Unpacked as UnpackedWord}
 use Rattle.packing.specs.Packing.{Packed}
+use Rattle.sheet.specs.declared.Heading.{Heading as SheetHeading}
 use Rattle.run.specs.Run.{Ended}
+use Rattle.run.specs.Step.{Halted}
 use Rattle.interrupt.specs.Interrupt.{Left}
 use Rattle.am29332.specs.declared.Answer.{Answer}
 use Rattle.am29332.specs.declared.Unpacked.{Unpacked}
+use Rattle.am29332.specs.declared.Heading.{Heading}
 use Rattle.am29332.specs.declared.Ran.{Ran}
+use Rattle.am29332.specs.declared.Stepped.{Stepped}
 use Rattle.am29332.specs.declared.Interrupted.{Interrupted}
 
 -- a single word's answer: Y, parity, Q and status besides
@@ -20,6 +24,10 @@ singleNumbers a = record { outcome = outcomeOf (a .reason) (a .place); y = a .y;
 -- an unpacked word: its fields besides
 abbrev pub unpackNumbers : UnpackedWord → Unpacked
 unpackNumbers u = record { outcome = checkNumbers (u .check); word = u .word }
+
+-- a header: its version and its two counts besides
+abbrev pub headingNumbers : SheetHeading → Heading
+headingNumbers h = record { outcome = checkNumbers (h .check); version = h .version; words = h .words; registers = h .registers }
 
 -- ---- an answer and what was lent, together
 pub record Leaves (A : Type 0) : Type 0 where
@@ -36,6 +44,13 @@ packNumbers p = leaves (checkNumbers (p .check)) (p .bytes)
 -- a run: Q and status, and the file of registers
 abbrev pub ranNumbers : Ended → Leaves Ran
 ranNumbers e = leaves (record { outcome = outcomeOf (e .answer .reason) (e .answer .place); machine = e .answer .machine }) (e .file)
+
+-- one word of a sheet: Y and parity besides
+abbrev pub stepNumbers : Halted → Leaves Stepped
+stepNumbers e =
+    leaves
+    (record { outcome = outcomeOf (e .answer .reason) (e .answer .place); y = e .answer .y; parity = e .answer .parity; machine = e .answer .machine })
+    (e .file)
 
 -- an interrupted run: the mark besides
 abbrev pub interruptedNumbers : Left → Leaves Interrupted

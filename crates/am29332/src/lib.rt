@@ -11,12 +11,15 @@ ghost use Rattle.machine.specs.Core.{freshOf};
 ghost use Rattle.chip.specs.Single.{singleOf};
 ghost use Rattle.packing.specs.Packing.{packOf, unpackOf};
 ghost use Rattle.sheet.specs.Sheet.{checkOf};
+ghost use Rattle.sheet.specs.Heading.{headingOf};
 ghost use Rattle.sheet.specs.declared.Given.the-variants.{Absent};
 ghost use Rattle.handler.specs.Form.{handlerOf};
 ghost use Rattle.run.specs.Run.{runOf, inParts};
+ghost use Rattle.run.specs.Step.{oneWordOf};
 ghost use Rattle.interrupt.specs.Interrupt.{interruptedOf};
 ghost use Rattle.interrupt.specs.Demand3.{NoTrace};
-ghost use Rattle.am29332.specs.Numbers.{singleNumbers, packNumbers, unpackNumbers, ranNumbers, interruptedNumbers, leaves};
+ghost use Rattle.am29332.specs.Numbers.{singleNumbers, packNumbers, unpackNumbers, headingNumbers, ranNumbers, stepNumbers, interruptedNumbers, leaves};
+ghost use Rattle.am29332.specs.Version.{libraryVersion};
 
 // What a single word answers. The parity has a bit for each byte of Y, the highest byte's in bit 3.
 #[repr(C)]
@@ -35,10 +38,28 @@ pub struct Unpacked {
     pub word: Word,
 }
 
+// What a header says: its three numbers are 0 where it is refused.
+#[repr(C)]
+pub struct Heading {
+    pub outcome: Outcome,
+    pub version: u32,
+    pub words: u32,
+    pub registers: u32,
+}
+
 // What a run answers: Q and status are those to go on from.
 #[repr(C)]
 pub struct Ran {
     pub outcome: Outcome,
+    pub machine: Machine,
+}
+
+// What one word of a sheet answers: Y and its parity as a single word's, Q and status those to go on from.
+#[repr(C)]
+pub struct Stepped {
+    pub outcome: Outcome,
+    pub y: u32,
+    pub parity: u32,
     pub machine: Machine,
 }
 
@@ -48,6 +69,14 @@ pub struct Interrupted {
     pub outcome: Outcome,
     pub machine: Machine,
     pub mark: u32,
+}
+
+// The version of this interface: major, minor and patch, the lower two in eight bits each.
+#[no_mangle]
+pub extern "C" fn am29332_library_version() -> u32
+    ensures { λ r. ⌜ r ≡ libraryVersion ⌝ }
+{
+    0x01_00_00
 }
 
 // A fresh machine.
@@ -96,6 +125,21 @@ pub extern "C" fn am29332_unpack(bytes: &[u8]) -> Unpacked
     }
 }
 
+// The header in the first four bytes; what follows it is not looked at.
+#[no_mangle]
+pub extern "C" fn am29332_read_header(sheet: &[u8]) -> Heading
+    ensures { λ r. ⌜ r ≡ headingNumbers (headingOf (now (sheet .entry))) ⌝ }
+{
+    let heading = sheet::read_header(sheet);
+    let check = heading.check;
+    Heading {
+        outcome: reasons::numbered_check(check),
+        version: heading.version,
+        words: heading.words,
+        registers: heading.registers,
+    }
+}
+
 // A sheet on its own: no file is lent and no start word given.
 #[no_mangle]
 pub extern "C" fn am29332_check_sheet(sheet: &[u8]) -> Outcome
@@ -130,6 +174,27 @@ pub extern "C" fn am29332_run(
     let after = answer.machine;
     Ran {
         outcome: reasons::numbered(reason, answer.place),
+        machine: after,
+    }
+}
+
+// Word `start` of a sheet alone, and what it shows.
+#[no_mangle]
+pub extern "C" fn am29332_step(
+    sheet: &[u8],
+    file: &mut [u32],
+    machine: Machine,
+    start: u64,
+) -> Stepped
+    ensures { λ r. ⌜ leaves r (now (file .exit)) ≡ stepNumbers (oneWordOf (now (sheet .entry)) (now (file .entry)) machine start) ⌝ }
+{
+    let answer = run::one_word(sheet, file, machine, start as usize);
+    let reason = answer.reason;
+    let after = answer.machine;
+    Stepped {
+        outcome: reasons::numbered(reason, answer.place),
+        y: answer.y,
+        parity: answer.parity,
         machine: after,
     }
 }
