@@ -42,6 +42,29 @@
  *
  * Bits 13, 14, 15 and 23 of a status handed in are ignored. Every accepted call
  * hands them back as worked out, even where no word runs.
+ *
+ * Where a caller who has AMD's manual open sees something else than its page
+ * (docs/MANUAL.md has each entry in full, and all others):
+ *
+ *   M27  Bit 13, UNSIGNED LE, is C or Z in both modes. After a subtraction in
+ *        carry mode `less or equal, unsigned` is C 0 or Z 1, not bit 13.
+ *   M1   REMCORR passes B where N and S are 0, so that a division without jumps
+ *        ends with the right remainder.
+ *   M3   MPUDIVSTP3's new quotient bit is the complement of the printed one, as
+ *        the prose has it for UDIVSTEP.
+ *   M13  In MPDIVSTEP2, MPSDIVSTEP3 and MPUDIVSTP3 macro select has the other
+ *        sense, as their pages print it: see `select` below.
+ *   M15, M17  Nibble carries of additions are decimal ones, and all eight are
+ *        those of the whole 32-bit operands at every byte code.
+ *   M6, M19  C of the divide steps is the plain carry in both modes; borrow
+ *        mode turns the C of INCR over as well as that of subtractions.
+ *   M23, M26, M36  DN1-AR and NB-SN fill with the operand's sign, not with N;
+ *        in the non-aligned field operations a negative position rotates.
+ *   M28, M33, M34  EXTBIT-STAT leaves Z; SIGN looks at the N flag; SETBIT-A and
+ *        SETBIT-B always clear Z, RSTBIT-A and RSTBIT-B always set it.
+ *   M46  1E, 1F, 4C and 4D have no page and are refused.
+ *   N1 to N4  There is no HOLD, no output enable, no register status pin and no
+ *        parity of inputs.
  */
 #ifndef AM29332_H
 #define AM29332_H
@@ -55,37 +78,150 @@ extern "C" {
 
 /* ---- Numbers ------------------------------------------------------------ */
 
+/* The version of this header, and of the library that am29332_library_version
+ * answers for. Another major number: a caller must be changed. A higher minor
+ * one: something was added. */
+#define AM29332_LIBRARY_VERSION_MAJOR 1
+#define AM29332_LIBRARY_VERSION_MINOR 0
+#define AM29332_LIBRARY_VERSION_PATCH 0
+#define AM29332_LIBRARY_VERSION                                                \
+    (AM29332_LIBRARY_VERSION_MAJOR * UINT32_C(65536) +                         \
+     AM29332_LIBRARY_VERSION_MINOR * UINT32_C(256) +                           \
+     AM29332_LIBRARY_VERSION_PATCH)
+
+/* What a sheet and a schedule may have at most, and their sizes in bytes. */
+#define AM29332_MAX_WORDS 4095
+#define AM29332_MAX_REGISTERS 64
+#define AM29332_MAX_ENTRIES 1024 /* of a schedule */
+#define AM29332_HEADER_BYTES 4
+#define AM29332_WORD_BYTES 6
+#define AM29332_SHEET_BYTES(words)                                             \
+    (AM29332_HEADER_BYTES + AM29332_WORD_BYTES * (size_t)(words))
+
 /* Reasons. Each is given exactly when its condition holds and no earlier one
  * in the call's order does. The place that comes with it is in brackets. */
 enum am29332_reason {
-    AM29332_DONE = 0,      /* not refused [words run; 0 where none could] */
-    AM29332_OPCODE = 1,    /* opcode above 127 or with no page [word] */
-    AM29332_INPUTS = 2,    /* single word or packing: byte code above 3,
-                              position above 63, width above 31, register
-                              above 63, a switch above 1 [0] */
-    AM29332_SHORT = 3,     /* sheet under 4 bytes [0] */
-    AM29332_VERSION = 4,   /* version is not 1 [0] */
-    AM29332_HEADER = 5,    /* zero bits set, or register count 0 or above 64
-                              [0] */
-    AM29332_LENGTH = 6,    /* not 4 + 6 x count bytes [0] */
-    AM29332_FILE = 7,      /* fewer registers lent than declared [0] */
-    AM29332_SPARE = 8,     /* a word's zero bits set [word] */
-    AM29332_REGISTER = 9,  /* a register not below the declared count [word] */
-    AM29332_START = 10,    /* start word above the count [0] */
-    AM29332_FORM = 11,     /* handler breaks the form [first word at fault, 0
-                              if under six words] */
-    AM29332_OVERLAP = 12,  /* a register named by main sheet and handler [first
-                              main word that names one] */
-    AM29332_SCHEDULE = 13, /* above 1,024 entries, one above the main sheet's
-                              count, or falling [first entry at fault] */
-    AM29332_ROOM = 14      /* fewer than 6 bytes to pack into or unpack [0] */
+    AM29332_REASON_DONE = 0,     /* not refused [words run; 0 where none
+                                    could] */
+    AM29332_REASON_OPCODE = 1,   /* opcode above 127 or with no page [word] */
+    AM29332_REASON_INPUTS = 2,   /* single word or packing: byte code above 3,
+                                    position above 63, width above 31, register
+                                    above 63, a switch above 1 [0] */
+    AM29332_REASON_SHORT = 3,    /* sheet under 4 bytes [0] */
+    AM29332_REASON_VERSION = 4,  /* version is not 1 [0] */
+    AM29332_REASON_HEADER = 5,   /* zero bits set, or register count 0 or above
+                                    64 [0] */
+    AM29332_REASON_LENGTH = 6,   /* not 4 + 6 x count bytes [0] */
+    AM29332_REASON_FILE = 7,     /* fewer registers lent than declared [0] */
+    AM29332_REASON_SPARE = 8,    /* a word's zero bits set [word] */
+    AM29332_REASON_REGISTER = 9, /* a register not below the declared count
+                                    [word] */
+    AM29332_REASON_START = 10,   /* start word above the count [0] */
+    AM29332_REASON_FORM = 11,    /* handler breaks the form [first word at
+                                    fault, 0 if under six words] */
+    AM29332_REASON_OVERLAP = 12, /* a register named by main sheet and handler
+                                    [first main word that names one] */
+    AM29332_REASON_SCHEDULE = 13, /* above 1,024 entries, one above the main
+                                     sheet's count, or falling [first entry at
+                                     fault] */
+    AM29332_REASON_ROOM = 14     /* fewer than 6 bytes to pack into or unpack
+                                    [0] */
 };
+
+/* A reason's name in document 01; "unknown" for a number that has none. */
+static inline const char *am29332_reason_name(uint32_t reason)
+{
+    switch (reason) {
+    case AM29332_REASON_DONE: return "done";
+    case AM29332_REASON_OPCODE: return "Opcode";
+    case AM29332_REASON_INPUTS: return "Inputs";
+    case AM29332_REASON_SHORT: return "Short";
+    case AM29332_REASON_VERSION: return "Version";
+    case AM29332_REASON_HEADER: return "Header";
+    case AM29332_REASON_LENGTH: return "Length";
+    case AM29332_REASON_FILE: return "File";
+    case AM29332_REASON_SPARE: return "Spare";
+    case AM29332_REASON_REGISTER: return "Register";
+    case AM29332_REASON_START: return "Start";
+    case AM29332_REASON_FORM: return "Form";
+    case AM29332_REASON_OVERLAP: return "Overlap";
+    case AM29332_REASON_SCHEDULE: return "Schedule";
+    case AM29332_REASON_ROOM: return "Room";
+    default: return "unknown";
+    }
+}
 
 /* Which sheet of an interrupted run a refusal's fault is in. */
 enum am29332_mark {
     AM29332_IN_NEITHER = 0,
     AM29332_IN_MAIN = 1,
     AM29332_IN_HANDLER = 2
+};
+
+/* Opcodes, by the mnemonics of the manual's glossary with _ for -. */
+enum am29332_opcode {
+    AM29332_OP_ZERO_EXTA = 0x00, AM29332_OP_ZERO_EXTB = 0x01,
+    AM29332_OP_SIGN_EXTA = 0x02, AM29332_OP_SIGN_EXTB = 0x03,
+    AM29332_OP_PASS_STAT = 0x04, AM29332_OP_PASS_Q = 0x05,
+    AM29332_OP_LOADQ_A = 0x06, AM29332_OP_LOADQ_B = 0x07,
+    AM29332_OP_NOT_A = 0x08, AM29332_OP_NOT_B = 0x09,
+    AM29332_OP_NEG_A = 0x0A, AM29332_OP_NEG_B = 0x0B,
+    AM29332_OP_PRIOR_A = 0x0C, AM29332_OP_PRIOR_B = 0x0D,
+    AM29332_OP_MERGEA_B = 0x0E, AM29332_OP_MERGEB_A = 0x0F,
+    AM29332_OP_DECR_A = 0x10, AM29332_OP_DECR_B = 0x11,
+    AM29332_OP_INCR_A = 0x12, AM29332_OP_INCR_B = 0x13,
+    AM29332_OP_DECR2_A = 0x14, AM29332_OP_DECR2_B = 0x15,
+    AM29332_OP_INCR2_A = 0x16, AM29332_OP_INCR2_B = 0x17,
+    AM29332_OP_DECR4_A = 0x18, AM29332_OP_DECR4_B = 0x19,
+    AM29332_OP_INCR4_A = 0x1A, AM29332_OP_INCR4_B = 0x1B,
+    AM29332_OP_LDSTAT_A = 0x1C, AM29332_OP_LDSTAT_B = 0x1D,
+    AM29332_OP_DN1_0F_A = 0x20, AM29332_OP_DN1_0F_B = 0x21,
+    AM29332_OP_DN1_0F_AQ = 0x22, AM29332_OP_DN1_0F_BQ = 0x23,
+    AM29332_OP_DN1_1F_A = 0x24, AM29332_OP_DN1_1F_B = 0x25,
+    AM29332_OP_DN1_1F_AQ = 0x26, AM29332_OP_DN1_1F_BQ = 0x27,
+    AM29332_OP_DN1_LF_A = 0x28, AM29332_OP_DN1_LF_B = 0x29,
+    AM29332_OP_DN1_LF_AQ = 0x2A, AM29332_OP_DN1_LF_BQ = 0x2B,
+    AM29332_OP_DN1_AR_A = 0x2C, AM29332_OP_DN1_AR_B = 0x2D,
+    AM29332_OP_DN1_AR_AQ = 0x2E, AM29332_OP_DN1_AR_BQ = 0x2F,
+    AM29332_OP_UP1_0F_A = 0x30, AM29332_OP_UP1_0F_B = 0x31,
+    AM29332_OP_UP1_0F_AQ = 0x32, AM29332_OP_UP1_0F_BQ = 0x33,
+    AM29332_OP_UP1_1F_A = 0x34, AM29332_OP_UP1_1F_B = 0x35,
+    AM29332_OP_UP1_1F_AQ = 0x36, AM29332_OP_UP1_1F_BQ = 0x37,
+    AM29332_OP_UP1_LF_A = 0x38, AM29332_OP_UP1_LF_B = 0x39,
+    AM29332_OP_UP1_LF_AQ = 0x3A, AM29332_OP_UP1_LF_BQ = 0x3B,
+    AM29332_OP_ZERO = 0x3C, AM29332_OP_SIGN = 0x3D,
+    AM29332_OP_OR = 0x3E, AM29332_OP_XOR = 0x3F,
+    AM29332_OP_AND = 0x40, AM29332_OP_XNOR = 0x41,
+    AM29332_OP_ADD = 0x42, AM29332_OP_ADDC = 0x43,
+    AM29332_OP_SUB = 0x44, AM29332_OP_SUBC = 0x45,
+    AM29332_OP_SUBR = 0x46, AM29332_OP_SUBRC = 0x47,
+    AM29332_OP_SUM_CORR_A = 0x48, AM29332_OP_SUM_CORR_B = 0x49,
+    AM29332_OP_DIFF_CORR_A = 0x4A, AM29332_OP_DIFF_CORR_B = 0x4B,
+    AM29332_OP_SDIVFIRST = 0x4E, AM29332_OP_UDIVFIRST = 0x4F,
+    AM29332_OP_SDIVSTEP = 0x50, AM29332_OP_SDIVLAST1 = 0x51,
+    AM29332_OP_MPDIVSTEP1 = 0x52, AM29332_OP_MPSDIVSTEP3 = 0x53,
+    AM29332_OP_UDIVSTEP = 0x54, AM29332_OP_UDIVLAST = 0x55,
+    AM29332_OP_MPDIVSTEP2 = 0x56, AM29332_OP_MPUDIVSTP3 = 0x57,
+    AM29332_OP_REMCORR = 0x58, AM29332_OP_QUOCORR = 0x59,
+    AM29332_OP_SDIVLAST2 = 0x5A, AM29332_OP_UMULFIRST = 0x5B,
+    AM29332_OP_UMULSTEP = 0x5C, AM29332_OP_UMULLAST = 0x5D,
+    AM29332_OP_SMULSTEP = 0x5E, AM29332_OP_SMULFIRST = 0x5F,
+    AM29332_OP_NB_SN_SHA = 0x60, AM29332_OP_NB_SN_SHB = 0x61,
+    AM29332_OP_NB_0F_SHA = 0x62, AM29332_OP_NB_0F_SHB = 0x63,
+    AM29332_OP_NBROT_A = 0x64, AM29332_OP_NBROT_B = 0x65,
+    AM29332_OP_EXTBIT_A = 0x66, AM29332_OP_EXTBIT_B = 0x67,
+    AM29332_OP_SETBIT_A = 0x68, AM29332_OP_SETBIT_B = 0x69,
+    AM29332_OP_RSTBIT_A = 0x6A, AM29332_OP_RSTBIT_B = 0x6B,
+    AM29332_OP_SETBIT_STAT = 0x6C, AM29332_OP_RSTBIT_STAT = 0x6D,
+    AM29332_OP_NOTF_AL_B = 0x6E, AM29332_OP_PASSF_AL_B = 0x6F,
+    AM29332_OP_NOTF_A = 0x70, AM29332_OP_NOTF_AL_A = 0x71,
+    AM29332_OP_PASSF_A = 0x72, AM29332_OP_PASSF_AL_A = 0x73,
+    AM29332_OP_ORF_A = 0x74, AM29332_OP_ORF_AL_A = 0x75,
+    AM29332_OP_XORF_A = 0x76, AM29332_OP_XORF_AL_A = 0x77,
+    AM29332_OP_ANDF_A = 0x78, AM29332_OP_ANDF_AL_A = 0x79,
+    AM29332_OP_EXTF_A = 0x7A, AM29332_OP_EXTF_B = 0x7B,
+    AM29332_OP_EXTF_AB = 0x7C, AM29332_OP_EXTF_BA = 0x7D,
+    AM29332_OP_EXTBIT_STAT = 0x7E, AM29332_OP_PASS_MASK = 0x7F
 };
 
 /* Weights of the status bits, and the lowest of those that are numbers. */
@@ -123,7 +259,11 @@ typedef struct am29332_word {
     uint32_t b;
     uint32_t y;
     uint32_t write;  /* 1: Y is stored in register y */
-    uint32_t select; /* 1: carry and link are macro carry and macro link */
+    uint32_t select; /* macro select. 1: where an operation takes a carry or a
+                        link in, it is the macro carry or macro link, not C or
+                        L. The other way round in MPDIVSTEP2, MPSDIVSTEP3 and
+                        MPUDIVSTP3, where 0 takes the macro inputs (M13);
+                        UP1-LF always takes L (M24) */
     uint32_t carry;  /* macro carry */
     uint32_t link;   /* macro link */
     uint32_t borrow; /* 1: C stands for a borrow in subtraction */
@@ -167,11 +307,28 @@ typedef struct am29332_unpacked {
     am29332_word word;
 } am29332_unpacked;
 
+/* What a header says. */
+typedef struct am29332_heading {
+    am29332_outcome outcome;
+    uint32_t version;
+    uint32_t words;
+    uint32_t registers;
+} am29332_heading;
+
 /* What a run answers: the machine is the one to go on from. */
 typedef struct am29332_ran {
     am29332_outcome outcome;
     am29332_machine machine;
 } am29332_ran;
+
+/* What one word of a sheet answers: Y and parity as in am29332_answer, and the
+ * machine to go on from. */
+typedef struct am29332_stepped {
+    am29332_outcome outcome;
+    uint32_t y;
+    uint32_t parity;
+    am29332_machine machine;
+} am29332_stepped;
 
 /* What an interrupted run answers; mark is of enum am29332_mark. */
 typedef struct am29332_interrupted {
@@ -180,7 +337,47 @@ typedef struct am29332_interrupted {
     uint32_t mark;
 } am29332_interrupted;
 
+/* The sizes and offsets that the library goes by, tried wherever this header is
+ * compiled. */
+#if defined(__cplusplus) && __cplusplus >= 201103L
+#define AM29332_CHECK(condition) static_assert(condition, #condition)
+#elif !defined(__cplusplus) && defined(__STDC_VERSION__) &&                    \
+    __STDC_VERSION__ >= 201112L
+#define AM29332_CHECK(condition) _Static_assert(condition, #condition)
+#endif
+#ifdef AM29332_CHECK
+AM29332_CHECK(sizeof(size_t) == 8);
+AM29332_CHECK(sizeof(am29332_machine) == 8);
+AM29332_CHECK(sizeof(am29332_word) == 48);
+AM29332_CHECK(offsetof(am29332_word, borrow) == 44);
+AM29332_CHECK(sizeof(am29332_inputs) == 48);
+AM29332_CHECK(offsetof(am29332_inputs, status) == 44);
+AM29332_CHECK(sizeof(am29332_outcome) == 16);
+AM29332_CHECK(offsetof(am29332_outcome, place) == 8);
+AM29332_CHECK(sizeof(am29332_answer) == 32);
+AM29332_CHECK(offsetof(am29332_answer, y) == 16);
+AM29332_CHECK(sizeof(am29332_unpacked) == 64);
+AM29332_CHECK(offsetof(am29332_unpacked, word) == 16);
+AM29332_CHECK(sizeof(am29332_heading) == 32);
+AM29332_CHECK(offsetof(am29332_heading, version) == 16);
+AM29332_CHECK(sizeof(am29332_ran) == 24);
+AM29332_CHECK(offsetof(am29332_ran, machine) == 16);
+AM29332_CHECK(sizeof(am29332_stepped) == 32);
+AM29332_CHECK(offsetof(am29332_stepped, machine) == 24);
+AM29332_CHECK(sizeof(am29332_interrupted) == 32);
+AM29332_CHECK(offsetof(am29332_interrupted, mark) == 24);
+#undef AM29332_CHECK
+#endif
+
 /* ---- Functions ---------------------------------------------------------- */
+
+/*
+ * The version of the library that is linked.
+ *
+ * Promises: major x 65,536 + minor x 256 + patch. A caller that was compiled
+ * with this header can hold it to AM29332_LIBRARY_VERSION.
+ */
+uint32_t am29332_library_version(void);
 
 /*
  * A fresh machine.
@@ -219,6 +416,18 @@ am29332_outcome am29332_pack(am29332_word word, uint8_t *bytes, size_t length);
 am29332_unpacked am29332_unpack(const uint8_t *bytes, size_t length);
 
 /*
+ * Reads the header of a sheet from the first four of `length` bytes, for a
+ * caller that has to know how much to read and to lend.
+ *
+ * Promises: the version, which is 1, the word count (the sheet is
+ * AM29332_SHEET_BYTES of it long) and the register count. What follows the four
+ * bytes is not looked at.
+ * Refuses, in this order: 3 SHORT, 4 VERSION, 5 HEADER; the three numbers are
+ * then 0. The place is always 0.
+ */
+am29332_heading am29332_read_header(const uint8_t *sheet, size_t length);
+
+/*
  * Checks a sheet of `length` bytes on its own.
  *
  * Promises: 0 DONE with place 0 exactly when a run from word 0 on a file of the
@@ -232,9 +441,13 @@ am29332_outcome am29332_check_sheet(const uint8_t *sheet, size_t length);
  * Checks a sheet that is to be a handler, on its own.
  *
  * Promises: 0 DONE with place 0 exactly when the sheet is not refused and has
- * the handler's form: six words or more; PASS-STAT to s, PASS-Q to q, LOADQ-A,
- * LDSTAT-A; a body; LOADQ-A from q, LDSTAT-A from s; no other field names s or
- * q, and the six have byte code and switches 0.
+ * the handler's form. Six words or more, and two different registers s and q:
+ *   words 0 and 1         PASS-STAT to s, PASS-Q to q, both with write 1
+ *   words 2 and 3         LOADQ-A, LDSTAT-A, both with write 0
+ *   any number of words   the body
+ *   the last two          LOADQ-A from q, LDSTAT-A from s, both with write 0
+ * The six have byte code and switches 0. No other field A, B or Y of any word,
+ * used or not, names s or q.
  * Refuses: as am29332_check_sheet does, then 11 FORM.
  */
 am29332_outcome am29332_check_handler(const uint8_t *sheet, size_t length);
@@ -256,6 +469,21 @@ am29332_ran am29332_run(const uint8_t *sheet, size_t length,
                         uint32_t *file, size_t registers,
                         am29332_machine machine,
                         uint64_t start, uint64_t allowance);
+
+/*
+ * Runs word `start` of a sheet alone and shows what it leaves, for a front
+ * panel or a debugger.
+ *
+ * Promises: the place is 1, or 0 where `start` is the count and no word is
+ * left. The file, Q and status are those of am29332_run with an allowance of 1;
+ * Y and parity are what am29332_single_word answers on the word's fields and
+ * its two registers, whether write is 1 or not. Where no word ran they are 0.
+ * Refuses: as am29332_run does, and checks the whole sheet at each call; Y and
+ * parity are then 0.
+ */
+am29332_stepped am29332_step(const uint8_t *sheet, size_t length,
+                             uint32_t *file, size_t registers,
+                             am29332_machine machine, uint64_t start);
 
 /*
  * Runs the main sheet from word 0 to its end, and the whole handler at each of
