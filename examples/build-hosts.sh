@@ -26,6 +26,8 @@ if [ ! -e "$archive" ] || [ -n "$(find "$root/crates" -name '*.rt' -newer "$arch
     (cd "$root" && rt staticlib am29332 >"$work/staticlib.log" 2>&1) || { cat "$work/staticlib.log" >&2; exit 1; }
 fi
 
+"$root/tools/header_check.py"
+
 # c_host_native, c_host_elsewhere: "$work/c-host", and a command that runs it.
 c_host_native() {
     "$compiler" $flags -I "$root/include" "$here/c-host/main.c" "$archive" -o "$work/c-host"

@@ -1,6 +1,6 @@
 /*
- * A host for the proved Am29332 in C: runs a sheet, at once, in parts and
- * interrupted, and prints what happened.
+ * A host for the proved Am29332 in C: runs a sheet, word by word, at once, in
+ * parts and interrupted, and prints what happened.
  *
  *   host FILE.sheet     the sheet, then its registers, 4 bytes each, high first
  *
@@ -16,23 +16,12 @@
 #include <string.h>
 
 enum {
-    HEADER_BYTES = 4,
-    WORD_BYTES = 6,
-    MOST_BYTES = HEADER_BYTES + WORD_BYTES * 4095 + 4 * 64,
-    MOST_REGISTERS = 64,
+    MOST_BYTES = AM29332_SHEET_BYTES(AM29332_MAX_WORDS) +
+                 4 * AM29332_MAX_REGISTERS,
     HANDLER_WORDS = 7,
-    HANDLER_BYTES = HEADER_BYTES + WORD_BYTES * HANDLER_WORDS,
+    HANDLER_BYTES = AM29332_SHEET_BYTES(HANDLER_WORDS),
     HANDLER_REGISTERS = 4,
-    MOST_ENTRIES = 1024
-};
-
-/* Opcodes that the handler uses. */
-enum {
-    PASS_STAT = 0x04,
-    PASS_Q = 0x05,
-    LOADQ_A = 0x06,
-    INCR_A = 0x12,
-    LDSTAT_A = 0x1C
+    PANEL_WORDS = 4
 };
 
 /* A sheet and the registers it starts with. */
@@ -40,24 +29,15 @@ struct job {
     uint8_t bytes[MOST_BYTES + 1]; /* room for one too many */
     size_t length; /* of the sheet alone */
     size_t words, registers;
-    uint32_t file[MOST_REGISTERS];
+    uint32_t file[AM29332_MAX_REGISTERS];
 };
 
 /* ---- Printing ----------------------------------------------------------- */
 
-static const char *reason_name(uint32_t reason)
-{
-    static const char *const names[] = {
-        "done",   "Opcode", "Inputs",   "Short", "Version",
-        "Header", "Length", "File",     "Spare", "Register",
-        "Start",  "Form",   "Overlap",  "Schedule", "Room"};
-    return reason < sizeof names / sizeof *names ? names[reason] : "?";
-}
-
 static void print_outcome(const char *what, am29332_outcome outcome)
 {
     printf("%s: %02" PRIu32 " %s, place %" PRIu64 "\n", what, outcome.reason,
-           reason_name(outcome.reason), outcome.place);
+           am29332_reason_name(outcome.reason), outcome.place);
 }
 
 static void print_machine(am29332_machine machine)
@@ -75,7 +55,7 @@ static void print_file(const uint32_t *file, size_t registers)
 /* Stops the program where something is refused that should not be. */
 static void expect_done(const char *what, am29332_outcome outcome)
 {
-    if (outcome.reason == AM29332_DONE)
+    if (outcome.reason == AM29332_REASON_DONE)
         return;
     print_outcome(what, outcome);
     exit(1);
@@ -94,19 +74,18 @@ static void read_job(const char *path, struct job *job)
     size_t all = fread(job->bytes, 1, sizeof job->bytes, in);
     fclose(in);
     memset(job->file, 0, sizeof job->file);
-    job->words = job->registers = 0;
     job->length = all;
-    if (all < HEADER_BYTES)
-        return; /* the check says Short */
-    const uint8_t *b = job->bytes;
-    job->words = (size_t)(b[0] % 16) * 256 + b[1];
-    job->registers = b[2] / 2;
-    size_t after = HEADER_BYTES + WORD_BYTES * job->words;
-    if (job->registers > MOST_REGISTERS || all != after + 4 * job->registers)
-        return; /* the check says Header or Length */
+    /* Where the header or the length is wrong, the check says so. */
+    am29332_heading heading = am29332_read_header(job->bytes, all);
+    job->words = heading.words;
+    job->registers = heading.registers;
+    size_t after = AM29332_SHEET_BYTES(job->words);
+    if (heading.outcome.reason != AM29332_REASON_DONE ||
+        all != after + 4 * job->registers)
+        return;
     job->length = after;
     for (size_t r = 0; r < job->registers; r++) {
-        const uint8_t *at = b + after + 4 * r;
+        const uint8_t *at = job->bytes + after + 4 * r;
         job->file[r] = (uint32_t)at[0] << 24 | (uint32_t)at[1] << 16 |
                        (uint32_t)at[2] << 8 | at[3];
     }
@@ -133,10 +112,13 @@ static void make_handler(uint32_t first, uint8_t sheet[HANDLER_BYTES])
     const struct {
         uint32_t opcode, a, y, write;
     } words[HANDLER_WORDS] = {
-        {PASS_STAT, count, s, 1}, {PASS_Q, count, q, 1},
-        {LOADQ_A, zero, count, 0}, {LDSTAT_A, zero, count, 0},
-        {INCR_A, count, count, 1},
-        {LOADQ_A, q, count, 0},    {LDSTAT_A, s, count, 0},
+        {AM29332_OP_PASS_STAT, count, s, 1},
+        {AM29332_OP_PASS_Q, count, q, 1},
+        {AM29332_OP_LOADQ_A, zero, count, 0},
+        {AM29332_OP_LDSTAT_A, zero, count, 0},
+        {AM29332_OP_INCR_A, count, count, 1},
+        {AM29332_OP_LOADQ_A, q, count, 0},
+        {AM29332_OP_LDSTAT_A, s, count, 0},
     };
     put_header(sheet, HANDLER_WORDS, first + HANDLER_REGISTERS);
     for (size_t i = 0; i < HANDLER_WORDS; i++) {
@@ -145,8 +127,8 @@ static void make_handler(uint32_t first, uint8_t sheet[HANDLER_BYTES])
                              .b = count,
                              .y = words[i].y,
                              .write = words[i].write};
-        uint8_t *at = sheet + HEADER_BYTES + WORD_BYTES * i;
-        expect_done("packing", am29332_pack(word, at, WORD_BYTES));
+        uint8_t *at = sheet + AM29332_SHEET_BYTES(i);
+        expect_done("packing", am29332_pack(word, at, AM29332_WORD_BYTES));
     }
 }
 
@@ -158,6 +140,30 @@ static bool same(const uint32_t *file, am29332_machine machine,
 {
     return machine.q == other.q && machine.status == other.status &&
            memcmp(file, other_file, registers * sizeof *file) == 0;
+}
+
+/* A front panel: the first words one by one, with what each shows; then what is
+ * said at the sheet's end and past it. */
+static void step_by_step(const struct job *job)
+{
+    uint32_t file[AM29332_MAX_REGISTERS];
+    am29332_machine machine = am29332_fresh();
+    memcpy(file, job->file, sizeof file);
+    for (uint64_t at = 0; at < PANEL_WORDS && at < job->words; at++) {
+        am29332_stepped shown = am29332_step(job->bytes, job->length, file,
+                                             job->registers, machine, at);
+        expect_done("step", shown.outcome);
+        printf("word %" PRIu64 ": Y %08" PRIX32 ", parity %" PRIX32
+               ", Q %08" PRIX32 ", status %08" PRIX32 "\n",
+               at, shown.y, shown.parity, shown.machine.q,
+               shown.machine.status);
+        machine = shown.machine;
+    }
+    for (uint64_t at = job->words; at <= job->words + 1; at++)
+        print_outcome(at == job->words ? "step at the end" : "step past it",
+                      am29332_step(job->bytes, job->length, file,
+                                   job->registers, machine, at)
+                          .outcome);
 }
 
 /* The sheet to its end, from a fresh machine. */
@@ -191,11 +197,11 @@ static am29332_interrupted run_interrupted(const struct job *job,
                                            size_t handler_length,
                                            const uint16_t *schedule,
                                            size_t entries,
-                                           uint32_t file[MOST_REGISTERS])
+                                           uint32_t file[AM29332_MAX_REGISTERS])
 {
     am29332_interrupted end = am29332_interrupted_run(
         job->bytes, job->length, handler, handler_length, schedule, entries,
-        file, MOST_REGISTERS, am29332_fresh());
+        file, AM29332_MAX_REGISTERS, am29332_fresh());
     print_outcome("interrupted run", end.outcome);
     printf("  mark %" PRIu32 "\n", end.mark);
     return end;
@@ -203,9 +209,9 @@ static am29332_interrupted run_interrupted(const struct job *job,
 
 /* The plain run and the one in parts; the machine and file that they leave. */
 static am29332_machine undisturbed(const struct job *job,
-                                   uint32_t file[MOST_REGISTERS])
+                                   uint32_t file[AM29332_MAX_REGISTERS])
 {
-    uint32_t parts[MOST_REGISTERS];
+    uint32_t parts[AM29332_MAX_REGISTERS];
     memcpy(file, job->file, sizeof parts);
     memcpy(parts, job->file, sizeof parts);
     am29332_machine at_once = run_at_once(job, file);
@@ -220,13 +226,13 @@ static void disturbed(const struct job *job, am29332_machine alone,
                       const uint32_t *file_alone)
 {
     uint8_t handler[HANDLER_BYTES];
-    uint16_t schedule[MOST_ENTRIES];
-    uint32_t file[MOST_REGISTERS];
+    uint16_t schedule[AM29332_MAX_ENTRIES];
+    uint32_t file[AM29332_MAX_REGISTERS];
     size_t entries = 0;
     make_handler((uint32_t)job->registers, handler);
     print_outcome("check of the handler",
                   am29332_check_handler(handler, sizeof handler));
-    while (entries <= job->words && entries < MOST_ENTRIES) {
+    while (entries <= job->words && entries < AM29332_MAX_ENTRIES) {
         schedule[entries] = (uint16_t)entries;
         entries++;
     }
@@ -248,7 +254,8 @@ static void disturbed(const struct job *job, am29332_machine alone,
 /* A single word: example d of document 01, NOT-A on two bytes. */
 static void single_word(void)
 {
-    am29332_inputs inputs = {.opcode = 0x08, .code = 2, .a = 0x12345678};
+    am29332_inputs inputs = {
+        .opcode = AM29332_OP_NOT_A, .code = 2, .a = 0x12345678};
     am29332_answer answer = am29332_single_word(inputs);
     print_outcome("single word NOT-A, two bytes of 12345678", answer.outcome);
     printf("  Y %08" PRIX32 ", parity %" PRIX32 ", N %d, Z %d\n", answer.y,
@@ -256,11 +263,23 @@ static void single_word(void)
            (answer.status & AM29332_STATUS_Z) != 0);
 }
 
+/* The library that is linked, which must be one that this header describes. */
+static void library(void)
+{
+    uint32_t version = am29332_library_version();
+    printf("library %" PRIu32 ".%" PRIu32 ".%" PRIu32 "\n", version / 65536,
+           version / 256 % 256, version % 256);
+    if (version == AM29332_LIBRARY_VERSION)
+        return;
+    puts("the header is another version's");
+    exit(1);
+}
+
 /* The first word of the sheet, field by field. */
 static void first_word(const struct job *job)
 {
-    am29332_unpacked first = am29332_unpack(job->bytes + HEADER_BYTES,
-                                            job->length - HEADER_BYTES);
+    am29332_unpacked first = am29332_unpack(
+        job->bytes + AM29332_HEADER_BYTES, job->length - AM29332_HEADER_BYTES);
     print_outcome("first word", first.outcome);
     printf("  opcode %02" PRIX32 ", byte code %" PRIu32 ", A %" PRIu32
            ", B %" PRIu32 ", Y %" PRIu32 ", write %" PRIu32 "\n",
@@ -271,23 +290,25 @@ static void first_word(const struct job *job)
 int main(int count, char **arguments)
 {
     static struct job job;
-    uint32_t file[MOST_REGISTERS];
+    uint32_t file[AM29332_MAX_REGISTERS];
     if (count != 2) {
         fprintf(stderr, "usage: %s FILE.sheet\n", arguments[0]);
         return 2;
     }
+    library();
     single_word();
     print_outcome("check of no bytes", am29332_check_sheet(NULL, 0));
     read_job(arguments[1], &job);
     am29332_outcome check = am29332_check_sheet(job.bytes, job.length);
     print_outcome("check of the sheet", check);
-    if (check.reason != AM29332_DONE)
+    if (check.reason != AM29332_REASON_DONE)
         return 1;
     printf("  %zu words, %zu registers\n", job.words, job.registers);
     if (job.words > 0)
         first_word(&job);
+    step_by_step(&job);
     am29332_machine machine = undisturbed(&job, file);
-    if (job.registers + HANDLER_REGISTERS <= MOST_REGISTERS)
+    if (job.registers + HANDLER_REGISTERS <= AM29332_MAX_REGISTERS)
         disturbed(&job, machine, file);
     return 0;
 }

@@ -20,12 +20,17 @@ static am29332_outcome outcome(struct model_verdict v)
     return (am29332_outcome){v.reason, v.place};
 }
 
+uint32_t am29332_library_version(void)
+{
+    return AM29332_LIBRARY_VERSION;
+}
+
 am29332_machine am29332_fresh(void)
 {
     return (am29332_machine){0, 0};
 }
 
-am29332_answer am29332_single_word(am29332_inputs x)
+static struct model_answer answer(am29332_inputs x)
 {
     struct model_inputs inputs = {
         .opcode = narrow(x.opcode),
@@ -41,7 +46,12 @@ am29332_answer am29332_single_word(am29332_inputs x)
         .q = x.q,
         .status = x.status,
     };
-    struct model_answer a = model_single(&inputs);
+    return model_single(&inputs);
+}
+
+am29332_answer am29332_single_word(am29332_inputs x)
+{
+    struct model_answer a = answer(x);
     return (am29332_answer){{a.reason, a.place}, a.y, a.parity, a.q, a.status};
 }
 
@@ -74,6 +84,21 @@ am29332_unpacked am29332_unpack(const uint8_t *bytes, size_t length)
          w.macro_select, w.macro_carry, w.macro_link, w.borrow}};
 }
 
+am29332_heading am29332_read_header(const uint8_t *sheet, size_t length)
+{
+    if (length < AM29332_HEADER_BYTES)
+        return (am29332_heading){{AM29332_REASON_SHORT, 0}, 0, 0, 0};
+    uint32_t header = (uint32_t)sheet[0] << 24 | (uint32_t)sheet[1] << 16 |
+                      (uint32_t)sheet[2] << 8 | sheet[3];
+    uint32_t registers = header >> 9 & 127;
+    if (header >> 28 != 1)
+        return (am29332_heading){{AM29332_REASON_VERSION, 0}, 0, 0, 0};
+    if (header % 512 != 0 || registers == 0 ||
+        registers > AM29332_MAX_REGISTERS)
+        return (am29332_heading){{AM29332_REASON_HEADER, 0}, 0, 0, 0};
+    return (am29332_heading){{0, 0}, 1, header >> 16 & 4095, registers};
+}
+
 am29332_outcome am29332_check_sheet(const uint8_t *sheet, size_t length)
 {
     return outcome(model_check(sheet, length));
@@ -92,6 +117,28 @@ am29332_ran am29332_run(const uint8_t *sheet, size_t length, uint32_t *file,
     struct model_verdict v =
         model_run(sheet, length, file, registers, &m, start, allowance);
     return (am29332_ran){outcome(v), {m.q, m.status}};
+}
+
+/* The word's inputs are taken before it runs, and shown only if it ran. */
+am29332_stepped am29332_step(const uint8_t *sheet, size_t length,
+                             uint32_t *file, size_t registers,
+                             am29332_machine machine, uint64_t start)
+{
+    struct model_answer shown = {0};
+    if (start < AM29332_MAX_WORDS && AM29332_SHEET_BYTES(start + 1) <= length) {
+        am29332_word w = am29332_unpack(sheet + AM29332_SHEET_BYTES(start),
+                                        AM29332_WORD_BYTES).word;
+        if (w.a < registers && w.b < registers)
+            shown = answer((am29332_inputs){
+                w.opcode, w.code, w.position, w.width, w.select, w.carry,
+                w.link, w.borrow, file[w.a], file[w.b], machine.q,
+                machine.status});
+    }
+    am29332_ran ran = am29332_run(sheet, length, file, registers, machine,
+                                  start, 1);
+    if (ran.outcome.reason != AM29332_REASON_DONE || ran.outcome.place == 0)
+        shown = (struct model_answer){0};
+    return (am29332_stepped){ran.outcome, shown.y, shown.parity, ran.machine};
 }
 
 am29332_interrupted am29332_interrupted_run(

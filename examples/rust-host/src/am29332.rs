@@ -32,6 +32,22 @@ mod library {
     }
 
     #[repr(C)]
+    pub struct Heading {
+        pub outcome: Outcome,
+        pub version: u32,
+        pub words: u32,
+        pub registers: u32,
+    }
+
+    #[repr(C)]
+    pub struct Stepped {
+        pub outcome: Outcome,
+        pub y: u32,
+        pub parity: u32,
+        pub machine: Machine,
+    }
+
+    #[repr(C)]
     pub struct Ran {
         pub outcome: Outcome,
         pub machine: Machine,
@@ -45,10 +61,12 @@ mod library {
     }
 
     extern "C" {
+        pub fn am29332_library_version() -> u32;
         pub fn am29332_fresh() -> Machine;
         pub fn am29332_single_word(inputs: Inputs) -> Answer;
         pub fn am29332_pack(word: Word, bytes: *mut u8, length: usize) -> Outcome;
         pub fn am29332_unpack(bytes: *const u8, length: usize) -> Unpacked;
+        pub fn am29332_read_header(sheet: *const u8, length: usize) -> Heading;
         pub fn am29332_check_sheet(sheet: *const u8, length: usize) -> Outcome;
         pub fn am29332_check_handler(sheet: *const u8, length: usize) -> Outcome;
         pub fn am29332_run(
@@ -60,6 +78,14 @@ mod library {
             start: u64,
             allowance: u64,
         ) -> Ran;
+        pub fn am29332_step(
+            sheet: *const u8,
+            length: usize,
+            file: *mut u32,
+            registers: usize,
+            machine: Machine,
+            start: u64,
+        ) -> Stepped;
         pub fn am29332_interrupted_run(
             main: *const u8,
             main_length: usize,
@@ -72,6 +98,16 @@ mod library {
             machine: Machine,
         ) -> Interrupted;
     }
+}
+
+/// The version of the header that this wrapper was written for: major, minor, patch.
+pub const VERSION: (u32, u32, u32) = (1, 0, 0);
+
+/// The version of the library that is linked.
+pub fn library_version() -> (u32, u32, u32) {
+    // SAFETY: nothing is handed in.
+    let version = unsafe { library::am29332_library_version() };
+    (version >> 16, version >> 8 & 255, version & 255)
 }
 
 /// Q and the status register, as a caller holds them between runs.
@@ -126,31 +162,49 @@ pub struct Answer {
     pub machine: Machine,
 }
 
-/// Why a call is refused, with the numbers that document 01 gives the reasons.
+/// What the header of a sheet says.
 #[derive(Clone, Copy, Debug, PartialEq, Eq)]
-pub enum Reason {
-    Opcode = 1,
-    Inputs = 2,
-    Short = 3,
-    Version = 4,
-    Header = 5,
-    Length = 6,
-    File = 7,
-    Spare = 8,
-    Register = 9,
-    Start = 10,
-    Form = 11,
-    Overlap = 12,
-    Schedule = 13,
-    Room = 14,
+pub struct Heading {
+    pub version: u32,
+    pub words: u32,
+    pub registers: u32,
 }
 
-/// Which sheet of an interrupted run the fault is in.
+/// What one word of a sheet shows, with the parity as in `Answer`.
+#[derive(Clone, Copy, Debug, PartialEq, Eq)]
+pub struct Shown {
+    pub y: u32,
+    pub parity: u32,
+}
+
+/// Why a call is refused. `Unknown` keeps the number of a reason that this wrapper does not know,
+/// from a later library.
+#[derive(Clone, Copy, Debug, PartialEq, Eq)]
+pub enum Reason {
+    Opcode,
+    Inputs,
+    Short,
+    Version,
+    Header,
+    Length,
+    File,
+    Spare,
+    Register,
+    Start,
+    Form,
+    Overlap,
+    Schedule,
+    Room,
+    Unknown(u32),
+}
+
+/// Which sheet of an interrupted run the fault is in, by the library's number.
 #[derive(Clone, Copy, Debug, PartialEq, Eq)]
 pub enum Mark {
-    Neither = 0,
-    Main = 1,
-    Handler = 2,
+    Neither,
+    Main,
+    Handler,
+    Unknown(u32),
 }
 
 /// A refusal: the reason, its place, and the sheet it lies in.
@@ -161,6 +215,7 @@ pub struct Refusal {
     pub mark: Mark,
 }
 
+/// In the order of the numbers that document 01 gives them, from 1 on.
 const REASONS: [Reason; 14] = [
     Reason::Opcode,
     Reason::Inputs,
@@ -178,15 +233,51 @@ const REASONS: [Reason; 14] = [
     Reason::Room,
 ];
 
+/// In the order of their numbers, from 0 on.
+const MARKS: [Mark; 3] = [Mark::Neither, Mark::Main, Mark::Handler];
+
+impl Reason {
+    fn of(number: u32) -> Reason {
+        let known = REASONS.get((number as usize).wrapping_sub(1));
+        known.copied().unwrap_or(Reason::Unknown(number))
+    }
+
+    /// Document 01's number.
+    pub fn number(self) -> u32 {
+        let known = REASONS.iter().position(|&reason| reason == self);
+        match (self, known) {
+            (Reason::Unknown(number), _) => number,
+            (_, place) => place.map_or(0, |place| place as u32 + 1),
+        }
+    }
+}
+
+impl Mark {
+    fn of(number: u32) -> Mark {
+        let known = MARKS.get(number as usize);
+        known.copied().unwrap_or(Mark::Unknown(number))
+    }
+
+    /// The library's number.
+    pub fn number(self) -> u32 {
+        match self {
+            Mark::Neither => 0,
+            Mark::Main => 1,
+            Mark::Handler => 2,
+            Mark::Unknown(number) => number,
+        }
+    }
+}
+
 /// The place of an outcome that is not a refusal.
 fn done(outcome: library::Outcome, mark: u32) -> Result<u64, Refusal> {
-    let Some(index) = outcome.reason.checked_sub(1) else {
+    if outcome.reason == 0 {
         return Ok(outcome.place);
-    };
+    }
     Err(Refusal {
-        reason: REASONS[index as usize],
+        reason: Reason::of(outcome.reason),
         place: outcome.place,
-        mark: [Mark::Neither, Mark::Main, Mark::Handler][mark as usize],
+        mark: Mark::of(mark),
     })
 }
 
@@ -232,6 +323,18 @@ impl Word {
     }
 }
 
+/// The header of a sheet, from its first four bytes: what follows is not looked at. Refuses Short,
+/// Version, Header.
+pub fn read_header(sheet: &[u8]) -> Result<Heading, Refusal> {
+    // SAFETY: a slice's own pointer and length.
+    let heading = unsafe { library::am29332_read_header(sheet.as_ptr(), sheet.len()) };
+    done(heading.outcome, 0).map(|_| Heading {
+        version: heading.version,
+        words: heading.words,
+        registers: heading.registers,
+    })
+}
+
 /// Whether a sheet can run on as many registers as it declares. Refuses Short to Length, then
 /// Spare, Opcode, Register.
 pub fn check_sheet(sheet: &[u8]) -> Result<(), Refusal> {
@@ -271,6 +374,34 @@ pub fn run(
     };
     *machine = ran.machine;
     done(ran.outcome, 0)
+}
+
+/// Runs word `start` of a sheet alone and gives what it shows, or `None` at the sheet's end. Refuses
+/// as `run` does.
+pub fn step(
+    sheet: &[u8],
+    file: &mut [u32],
+    machine: &mut Machine,
+    start: u64,
+) -> Result<Option<Shown>, Refusal> {
+    // SAFETY: slices' own pointers and lengths, of which `file` alone is lent to be changed, and
+    // overlaps no other.
+    let stepped = unsafe {
+        library::am29332_step(
+            sheet.as_ptr(),
+            sheet.len(),
+            file.as_mut_ptr(),
+            file.len(),
+            *machine,
+            start,
+        )
+    };
+    *machine = stepped.machine;
+    let shown = Shown {
+        y: stepped.y,
+        parity: stepped.parity,
+    };
+    done(stepped.outcome, 0).map(|words| (words > 0).then_some(shown))
 }
 
 /// Runs the main sheet to its end with the handler let in at each boundary of the schedule, and

@@ -1,10 +1,13 @@
-//! A host for the proved Am29332 in Rust: runs a sheet, at once, in parts and interrupted, and
-//! prints what happened, as examples/c-host does.
+//! A host for the proved Am29332 in Rust: runs a sheet, word by word, at once, in parts and
+//! interrupted, and prints what happened, as examples/c-host does.
 //!
 //!     rust-host FILE.sheet     the sheet, then its registers, 4 bytes each, high first
 mod am29332;
 
-use am29332::{check_handler, check_sheet, interrupted_run, run, Inputs, Machine, Refusal, Word};
+use am29332::{
+    check_handler, check_sheet, interrupted_run, library_version, read_header, run, step, Inputs,
+    Machine, Refusal, Word,
+};
 use std::process::exit;
 
 const HEADER_BYTES: usize = 4;
@@ -12,6 +15,7 @@ const WORD_BYTES: usize = 6;
 const MOST_REGISTERS: usize = 64;
 const MOST_ENTRIES: usize = 1024;
 const HANDLER_REGISTERS: usize = 4;
+const PANEL_WORDS: usize = 4;
 
 // Opcodes that the handler uses.
 const PASS_STAT: u32 = 0x04;
@@ -37,7 +41,9 @@ fn print_outcome(what: &str, outcome: Result<u64, Refusal>) {
         Ok(place) => println!("{what}: 00 done, place {place}"),
         Err(r) => println!(
             "{what}: {:02} {:?}, place {}",
-            r.reason as u32, r.reason, r.place
+            r.reason.number(),
+            r.reason,
+            r.place
         ),
     }
 }
@@ -65,13 +71,13 @@ fn read_job(bytes: Vec<u8>) -> Job {
         registers: 0,
         file: [0; MOST_REGISTERS],
     };
-    let [b0, b1, b2, _, ..] = job.sheet[..] else {
+    let Ok(heading) = read_header(&job.sheet) else {
         return job;
     };
-    job.words = usize::from(b0 % 16) * 256 + usize::from(b1);
-    job.registers = usize::from(b2 / 2);
+    job.words = heading.words as usize;
+    job.registers = heading.registers as usize;
     let after = HEADER_BYTES + WORD_BYTES * job.words;
-    if job.registers > MOST_REGISTERS || job.sheet.len() != after + 4 * job.registers {
+    if job.sheet.len() != after + 4 * job.registers {
         return job;
     }
     for (register, bytes) in job.file.iter_mut().zip(job.sheet[after..].chunks_exact(4)) {
@@ -117,6 +123,30 @@ fn make_handler(first: u32) -> Result<Vec<u8>, Refusal> {
 
 // ---- runs
 
+/// A front panel: the first words one by one, with what each shows; then what is said at the
+/// sheet's end and past it.
+fn step_by_step(job: &Job) -> Result<(), Refusal> {
+    let mut file = job.file;
+    let file = &mut file[..job.registers];
+    let mut machine = Machine::fresh();
+    for at in 0..job.words.min(PANEL_WORDS) {
+        if let Some(shown) = step(&job.sheet, file, &mut machine, at as u64)? {
+            println!(
+                "word {at}: Y {:08X}, parity {:X}, Q {:08X}, status {:08X}",
+                shown.y, shown.parity, machine.q, machine.status
+            );
+        }
+    }
+    for (what, at) in [
+        ("step at the end", job.words),
+        ("step past it", job.words + 1),
+    ] {
+        let shown = step(&job.sheet, file, &mut machine, at as u64);
+        print_outcome(what, shown.map(|shown| u64::from(shown.is_some())));
+    }
+    Ok(())
+}
+
 /// The sheet to its end, from a fresh machine.
 fn run_at_once(job: &Job, file: &mut [u32]) -> Machine {
     let mut machine = Machine::fresh();
@@ -146,7 +176,7 @@ fn run_interrupted(job: &Job, handler: &[u8], schedule: &[u16], file: &mut File)
     print_outcome("interrupted run", outcome);
     println!(
         "  mark {}",
-        outcome.map_or_else(|refusal| refusal.mark as u32, |_| 0)
+        outcome.map_or_else(|refusal| refusal.mark.number(), |_| 0)
     );
     machine
 }
@@ -181,6 +211,16 @@ fn disturbed(job: &Job, alone: Machine, file_alone: &File) -> Result<(), Refusal
     run_interrupted(job, &handler, &schedule, &mut file);
     println!("  a register was changed: {}", yes(file != job.file));
     Ok(())
+}
+
+/// The library that is linked, which must be one that the wrapper was written for.
+fn library() {
+    let (major, minor, patch) = library_version();
+    println!("library {major}.{minor}.{patch}");
+    if (major, minor, patch) != am29332::VERSION {
+        println!("the wrapper is another version's");
+        exit(1);
+    }
 }
 
 /// A single word: example d of document 01, NOT-A on two bytes.
@@ -226,6 +266,7 @@ fn main() {
         eprintln!("usage: rust-host FILE.sheet");
         exit(2);
     };
+    library();
     single_word();
     print_check("check of no bytes", check_sheet(&[]));
     let bytes = std::fs::read(path).unwrap_or_else(|error| {
@@ -241,6 +282,10 @@ fn main() {
     println!("  {} words, {} registers", job.words, job.registers);
     if job.words > 0 {
         first_word(&job);
+    }
+    if let Err(refusal) = step_by_step(&job) {
+        print_outcome("step", Err(refusal));
+        exit(1);
     }
     let (machine, file) = undisturbed(&job);
     if job.registers + HANDLER_REGISTERS <= MOST_REGISTERS {
