@@ -37,9 +37,9 @@ def read(path):
 
 def compare(what, library, header):
     """Two dicts of the same things: what is missing on a side, and what differs."""
-    for name in library.keys() - header.keys():
+    for name in sorted(library.keys() - header.keys()):
         tell(f"{what} {name} is in the library and not in the header")
-    for name in header.keys() - library.keys():
+    for name in sorted(header.keys() - library.keys()):
         tell(f"{what} {name} is in the header and not in the library")
     for name in sorted(library.keys() & header.keys()):
         if library[name] != header[name]:
@@ -130,10 +130,10 @@ def header_text():
 
 
 def header_structs(text):
+    """A dict of the fields as C writes them, parted by semicolons."""
     found = {}
-    for name, body in re.findall(r"typedef struct \w+ \{(.*?)\} (\w+);", text, re.S):
-        name, body = body, name
-        found[name] = [tuple(field.split()) for field in body.split(";") if field.strip()]
+    for body, name in re.findall(r"typedef struct \w+ \{(.*?)\} (\w+);", text, re.S):
+        found[name] = "; ".join(" ".join(field.split()) for field in body.split(";") if field.strip())
     return found
 
 
@@ -167,7 +167,7 @@ def macros(text, prefix):
 
 
 def check_structs(structs, text):
-    library = {c_name(name): [(c_type(kind), field) for kind, field in fields] for name, fields in structs.items()}
+    library = {c_name(name): "; ".join(f"{c_type(kind)} {field}" for kind, field in fields) for name, fields in structs.items()}
     compare("struct", library, header_structs(text))
 
 
@@ -213,6 +213,28 @@ def check_numbers(text):
     version = dict(re.findall(r"^(major|minor|patch) = (\d+)$", read("crates/am29332/specs/Version.antt"), re.M))
     compare("version", {name.upper(): int(value) for name, value in version.items()}, macros(text, "AM29332_LIBRARY_VERSION_"))
     return len(opcodes)
+
+
+def number_in(path, pattern):
+    """The number in a definition."""
+    found = re.search(pattern, read(path))
+    if not found:
+        tell(f"{path} has no longer the form {pattern!r}, from which a limit is read")
+    return int(found.group(1)) if found else 0
+
+
+def check_limits(text):
+    """The largest counts, and the bytes of a header and a word, against the definitions."""
+    sheet, schedule = "crates/sheet/specs/Sheet.antt", "crates/handler/specs/Schedule.antt"
+    library = {
+        "MAX_WORDS": number_in(sheet, r"countOf h = h / 2 \^ 16 % (\d+)") - 1,
+        "MAX_REGISTERS": number_in(sheet, r"ltb (\d+) \(registersOf h\)"),
+        "MAX_ENTRIES": number_in(schedule, r"leb (\d+) j gives Schedule"),
+        "HEADER_BYTES": number_in(sheet, r"partOf s k = take \d+ \(drop \((\d+) \+"),
+        "WORD_BYTES": number_in(sheet, r"partOf s k = take (\d+)"),
+    }
+    header = macros(text, "AM29332_").items()
+    compare("limit", library, {name: value for name, value in header if re.fullmatch(r"MAX_\w+|\w+_BYTES", name)})
 
 
 def check_symbols(declared):
@@ -267,6 +289,7 @@ def main():
     check_structs(structs, text)
     check_functions(functions, declared)
     reasons, opcodes = check_reasons(text), check_numbers(text)
+    check_limits(text)
     symbols = check_symbols(declared)
     compiled = "not compiled" if told else check_compiled(structs, functions)
     if told:
