@@ -50,8 +50,8 @@
  *        carry mode `less or equal, unsigned` is C 0 or Z 1, not bit 13.
  *   M1   REMCORR passes B where N and S are 0, so that a division without jumps
  *        ends with the right remainder.
- *   M3   MPUDIVSTP3's new quotient bit is the complement of the printed one, as
- *        the prose has it for UDIVSTEP.
+ *   M3   The new quotient bit of UDIVSTEP, UDIVLAST and MPUDIVSTP3 is the
+ *        complement of the printed formula, which has lost an overbar.
  *   M13  In MPDIVSTEP2, MPSDIVSTEP3 and MPUDIVSTP3 macro select has the other
  *        sense, as their pages print it: see `select` below.
  *   M15, M17  Nibble carries of additions are decimal ones, and all eight are
