@@ -28,13 +28,13 @@ returns c =
     let a = k .before .before .before .args in
     step-numbers (now (a .sheet)) (now (a .file)) (a .machine) (a .start) _
     (ap (λ (x : StepAnswer). halted x (now (a .file))) (c .no-word .ensures)
-    ∙ step-refused (now (a .sheet)) (now (a .file)) (a .machine) (a .start) _ _ (sym (k .check-start .ensures) ∙ c .before .before .check .given .1))
+    ∙ step-refused (now (a .sheet)) (now (a .file)) (a .machine) (a .start) _ _ (sym (k .check-start .ensures .0) ∙ c .before .before .check .given .1))
 
 executions-requires : tie.Need-executions-requires
 executions-requires c κs =
     let k = c .before .before in
     let a = k .before .before .before .args in
-    ready (now (a .sheet)) (length (now (a .file))) (Number (a .start)) (sym (k .check-start .ensures) ∙ c .enum-told .given .1) .long
+    ready (now (a .sheet)) (length (now (a .file))) (Number (a .start)) (sym (k .check-start .ensures .0) ∙ c .enum-told .given .1) .long
 
 leave-requires : tie.Need-leave-requires
 leave-requires c κs =
@@ -50,7 +50,7 @@ returns-2 c =
     let past : length (executionsOf s) ≤ a .start = omega (arith, x .executions .ensures, c .before .before .before .if1 .taken) in
     step-numbers s (now (a .file)) (a .machine) (a .start) _
     (ap (λ (y : StepAnswer). halted y (now (a .file))) (c .no-word2 .ensures ∙ ap (idle Done 0) (c .before .leave .ensures ∙ ap handedBack (c .before .before .enter .ensures)))
-    ∙ step-is s (now (a .file)) (a .machine) (a .start) _ (sym (k .check-start .ensures) ∙ x .before .enum-told .given .1)
+    ∙ step-is s (now (a .file)) (a .machine) (a .start) _ (sym (k .check-start .ensures .0) ∙ x .before .enum-told .given .1)
     (drop-of-length-le (executionsOf s) past))
 
 word-at-requires : tie.Need-word-at-requires
@@ -59,7 +59,7 @@ word-at-requires c κs =
     let k = x .before .before .before in
     let a = k .before .before .before .args in
     let s = now (a .sheet) in
-    omega (arith, x .executions .ensures, executions-length s, c .if1 .left, ready s (length (now (a .file))) (Number (a .start)) (sym (k .check-start .ensures) ∙ x .before .enum-told .given .1) .whole)
+    omega (arith, x .executions .ensures, executions-length s, c .if1 .left, ready s (length (now (a .file))) (Number (a .start)) (sym (k .check-start .ensures .0) ∙ x .before .enum-told .given .1) .whole)
 
 perform-requires : tie.Need-perform-requires
 perform-requires c κs =
@@ -69,7 +69,7 @@ perform-requires c κs =
     let s = now (a .sheet) in
     let n = length (now (a .file)) in
     subst (WordReady n) (sym (c .before .word-at .ensures .0))
-    (word-ready s n (a .start) (ready s n (Number (a .start)) (sym (k .check-start .ensures) ∙ x .before .enum-told .given .1))
+    (word-ready s n (a .start) (ready s n (Number (a .start)) (sym (k .check-start .ensures .0) ∙ x .before .enum-told .given .1))
     (omega (arith, x .executions .ensures, executions-length s, c .before .before .if1 .left)))
 
 returns-3 : tie.Need-returns-3
@@ -82,7 +82,7 @@ returns-3 c =
     step-numbers s (now (a .file)) (a .machine) (a .start) _
     (p .perform .ensures
     ∙ ap (λ (w : Word). performedOn w (now (a .file)) (a .machine)) (p .before .before .word-at .ensures .0)
-    ∙ step-is s (now (a .file)) (a .machine) (a .start) _ (sym (k .check-start .ensures) ∙ x .before .enum-told .given .1)
+    ∙ step-is s (now (a .file)) (a .machine) (a .start) _ (sym (k .check-start .ensures .0) ∙ x .before .enum-told .given .1)
     (executions-next s (a .start) (omega (arith, x .executions .ensures, p .before .before .before .if1 .left))))
 
 pub one-word-spec : {M : Type 1} → statement M
