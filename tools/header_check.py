@@ -266,8 +266,8 @@ def assertions(structs, functions):
 
 
 def check_compiled(structs, functions):
-    compiler = os.environ.get("CC") or shutil.which("cc") or shutil.which("gcc") or shutil.which("clang")
-    if not compiler:
+    compiler = os.environ.get("CC") or shutil.which("cc") or shutil.which("gcc") or shutil.which("clang") or ""
+    if not shutil.which(compiler.split(" ")[0]):
         return "not compiled (there is no C compiler)"
     with tempfile.TemporaryDirectory() as work:
         path = os.path.join(work, "layout.c")
@@ -294,7 +294,8 @@ def main():
     compiled = "not compiled" if told else check_compiled(structs, functions)
     if told:
         sys.exit(1)
-    print(f"the header is the library's: {len(structs)} structs, {len(functions)} functions, {reasons} reasons, {opcodes} opcodes, {symbols}; {compiled}")
+    print(f"the header is the library's: {len(structs)} structs, {len(functions)} functions, {reasons} reasons, {opcodes} opcodes, "
+          f"{symbols}; {compiled}")
 
 
 if __name__ == "__main__":

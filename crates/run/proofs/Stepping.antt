@@ -8,9 +8,9 @@ use lib.ListN.{length, set, take, drop}
 use Rattle.bits.specs.Bits.{choose}
 use Rattle.machine.specs.declared.Machine.{Machine}
 use Rattle.reasons.specs.declared.Reason.{Reason}
-use Rattle.reasons.specs.declared.Reason.the-variants.{Done}
 use Rattle.reasons.specs.declared.Check.{Check}
 use Rattle.reasons.specs.declared.Check.the-variants.{Good as Passed, Bad}
+use Rattle.reasons.specs.declared.Outcome.{Outcome}
 use Rattle.reasons.specs.Reasons.{outcomeOf}
 use Rattle.chip.specs.declared.Word.{Word}
 use Rattle.chip.specs.declared.SingleAnswer.{SingleAnswer}
@@ -23,7 +23,7 @@ use Rattle.sheet.proofs.Positions.{All, all-drop}
 use Rattle.sheet.proofs.Positions.All.{none, more}
 use Rattle.sheet.proofs.Table.{ready}
 use Rattle.run.specs.Run.{entering, Ended, ended, ran, runOf}
-use Rattle.run.specs.Step.{Halted, halted, idle, standing, leftBy, performedOn, firstOn, unless, oneWordOf, counted, oneWordOutcome}
+use Rattle.run.specs.Step.{Halted, halted, idle, standing, ranAs, leftBy, performedOn, firstOn, unless, oneWordOf, counted, oneWordOutcome}
 use Rattle.run.proofs.Laws.{each-ready}
 use Rattle.run.proofs.Parts.{run-refused, run-is}
 
@@ -31,18 +31,16 @@ use Rattle.run.proofs.Parts.{run-refused, run-is}
 module _ (w : Word) (file : List ℕ) (m : Machine) where
   -- the two ways of the word: Y stored, or not
   module _ (a : SingleAnswer) (e : a ≡ singleOf (standing w file m)) where
-    pub performed-write : (w .write ≡ 0 → ⊥)
-        → halted (record { reason = Done; place = 1; y = a .y; parity = a .parity; machine = record { q = a .q; status = a .status } }) (set file (w .y) (a .y)) ≡ performedOn w file m
+    pub performed-write : (w .write ≡ 0 → ⊥) → halted (ranAs a) (set file (w .y) (a .y)) ≡ performedOn w file m
     performed-write h =
-        ap (halted _) (store-is file (w .y) (a .y) ∙ stored (w .write) h file _) ∙ ap (leftBy w file) e
+        ap (halted (ranAs a)) (store-is file (w .y) (a .y) ∙ stored (w .write) h file _) ∙ ap (leftBy w file) e
       where
         stored : (b : ℕ) → (b ≡ 0 → ⊥) → (x y : List ℕ) → y ≡ choose b x y
         stored zero h x y = absurd (h refl)
         stored (suc b) h x y = refl
 
-    pub performed-keep : w .write ≡ 0
-        → halted (record { reason = Done; place = 1; y = a .y; parity = a .parity; machine = record { q = a .q; status = a .status } }) file ≡ performedOn w file m
-    performed-keep z = ap (halted _) (sym (rw z refl)) ∙ ap (leftBy w file) e
+    pub performed-keep : w .write ≡ 0 → halted (ranAs a) file ≡ performedOn w file m
+    performed-keep z = ap (halted (ranAs a)) (sym (rw z refl)) ∙ ap (leftBy w file) e
 
   -- a word that can be run is not refused as a single word
   pub single-runs : {n : ℕ} → WordReady n w → singleOf (standing w file m) ≡ performed (inputsOf w (entering file m)) (shownOf w (entering file m))
@@ -66,7 +64,8 @@ abbrev pub asRun : Halted → Ended
 asRun h = ended (record { reason = h .answer .reason; place = h .answer .place; machine = h .answer .machine }) (h .file)
 
 module _ (s file : List ℕ) (m : Machine) (start : ℕ) where
-  pub step-refused : (r : Reason) (p : ℕ) → checkOf s (Number (length file)) (Number start) ≡ Bad r p → halted (idle r p m) file ≡ oneWordOf s file m start
+  pub step-refused : (r : Reason) (p : ℕ) → checkOf s (Number (length file)) (Number start) ≡ Bad r p
+      → halted (idle r p m) file ≡ oneWordOf s file m start
   unfolding oneWordOf
   step-refused r p e = sym (ap (λ (c : Check). unless c file m (firstOn (drop start (executionsOf s)) file m)) e)
 
@@ -80,10 +79,12 @@ module _ (s file : List ℕ) (m : Machine) (start : ℕ) where
       → (h ≡ oneWordOf s file m start) × (outcomeOf (h .answer .reason) (h .answer .place) ≡ oneWordOutcome s (length file) start)
   unfolding oneWordOf
   step-numbers h e =
-      (e, ap (λ (x : Halted). outcomeOf (x .answer .reason) (x .answer .place)) e ∙ go (checkOf s (Number (length file)) (Number start)) (drop start (executionsOf s)))
+      (e, ap numbered e ∙ go (checkOf s (Number (length file)) (Number start)) (drop start (executionsOf s)))
     where
-      go : (c : Check) (ws : List Word)
-          → outcomeOf (unless c file m (firstOn ws file m) .answer .reason) (unless c file m (firstOn ws file m) .answer .place) ≡ counted c (length (take 1 ws))
+      numbered : Halted → Outcome
+      numbered x = outcomeOf (x .answer .reason) (x .answer .place)
+
+      go : (c : Check) (ws : List Word) → numbered (unless c file m (firstOn ws file m)) ≡ counted c (length (take 1 ws))
       go Passed [] = refl
       go Passed (w ∷ ws) = refl
       go (Bad r p) ws = refl
@@ -100,7 +101,8 @@ module _ (s file : List ℕ) (m : Machine) (start : ℕ) where
       go : (c : Check) → checkOf s (Number (length file)) (Number start) ≡ c
           → asRun (unless c file m (firstOn (drop start (executionsOf s)) file m)) ≡ runOf s file m start 1
       go Passed e =
-          first (drop start (executionsOf s)) (all-drop _ start (executionsOf s) (each-ready s (length file) (ready s (length file) (Number start) e)))
+          first (drop start (executionsOf s))
+          (all-drop _ start (executionsOf s) (each-ready s (length file) (ready s (length file) (Number start) e)))
           ∙ sym (run-is s file m start 1 e)
       go (Bad r p) e = run-refused s file m start 1 r p e
 

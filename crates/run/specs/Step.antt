@@ -51,12 +51,13 @@ standing w file m =
       status = m .status;
     }
 
--- Y, parity, Q and status are the single word's, and Y is stored only when write is 1
+-- Y, parity, Q and status are the single word's
+abbrev pub ranAs : SingleAnswer → StepAnswer
+ranAs a = record { reason = Done; place = 1; y = a .y; parity = a .parity; machine = record { q = a .q; status = a .status } }
+
+-- and Y is stored only when write is 1
 abbrev pub leftBy : Word → List ℕ → SingleAnswer → Halted
-leftBy w file a =
-    halted
-    (record { reason = Done; place = 1; y = a .y; parity = a .parity; machine = record { q = a .q; status = a .status } })
-    (written w (a .y) file)
+leftBy w file a = halted (ranAs a) (written w (a .y) file)
 
 abbrev pub performedOn : Word → List ℕ → Machine → Halted
 performedOn w file m = leftBy w file (singleOf (standing w file m))

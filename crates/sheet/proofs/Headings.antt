@@ -56,7 +56,8 @@ module _ (s : List ℕ) where
       go : None (rowsBeside beside s file start) → headingOf s ≡ record { check = Good; version = 1; words = wordsOf s; registers = declaredOf s }
       go (more h₁ (more h₂ (more h₃ t))) =
           ap (λ (c : Check). headedBy c (number4 s)) (none-good (headingRows s) (more h₁ (more h₂ (more h₃ none))))
-          ∙ ap (λ (v : ℕ). record { check = Good; version = v; words = wordsOf s; registers = declaredOf s }) (eqb-true (versionOf (number4 s)) 1 (not-false _ h₂))
+          ∙ ap (λ (v : ℕ). record { check = Good; version = v; words = wordsOf s; registers = declaredOf s })
+          (eqb-true (versionOf (number4 s)) 1 (not-false _ h₂))
 
   -- no second answer meets the promise of `read_header`
   pub heading-only : (r r′ : Heading) → r ≡ headingOf s → r′ ≡ headingOf s → r ≡ r′

@@ -49,7 +49,8 @@ returns-2 c =
     let s = now (a .sheet) in
     let past : length (executionsOf s) ≤ a .start = omega (arith, x .executions .ensures, c .before .before .before .if1 .taken) in
     step-numbers s (now (a .file)) (a .machine) (a .start) _
-    (ap (λ (y : StepAnswer). halted y (now (a .file))) (c .no-word2 .ensures ∙ ap (idle Done 0) (c .before .leave .ensures ∙ ap handedBack (c .before .before .enter .ensures)))
+    (ap (λ (y : StepAnswer). halted y (now (a .file)))
+    (c .no-word2 .ensures ∙ ap (idle Done 0) (c .before .leave .ensures ∙ ap handedBack (c .before .before .enter .ensures)))
     ∙ step-is s (now (a .file)) (a .machine) (a .start) _ (sym (k .check-start .ensures .0) ∙ x .before .enum-told .given .1)
     (drop-of-length-le (executionsOf s) past))
 
@@ -59,7 +60,8 @@ word-at-requires c κs =
     let k = x .before .before .before in
     let a = k .before .before .before .args in
     let s = now (a .sheet) in
-    omega (arith, x .executions .ensures, executions-length s, c .if1 .left, ready s (length (now (a .file))) (Number (a .start)) (sym (k .check-start .ensures .0) ∙ x .before .enum-told .given .1) .whole)
+    let r = ready s (length (now (a .file))) (Number (a .start)) (sym (k .check-start .ensures .0) ∙ x .before .enum-told .given .1) in
+    omega (arith, x .executions .ensures, executions-length s, c .if1 .left, r .whole)
 
 perform-requires : tie.Need-perform-requires
 perform-requires c κs =

@@ -11,13 +11,15 @@ returns : tie.Need-returns
 returns c =
     let s = c .before .before .before in
     let a = s .before .before .before .before .args in
-    performed-write (a .word) (now (a .file)) (a .machine) _ (s .single-word .ensures .0 ∙ ap singleOf (s .before .at-chip .ensures)) (c .before .if1 .taken)
+    performed-write (a .word) (now (a .file)) (a .machine) _
+    (s .single-word .ensures .0 ∙ ap singleOf (s .before .at-chip .ensures)) (c .before .if1 .taken)
 
 returns-2 : tie.Need-returns-2
 returns-2 c =
     let s = c .before .before in
     let a = s .before .before .before .before .args in
-    performed-keep (a .word) (now (a .file)) (a .machine) _ (s .single-word .ensures .0 ∙ ap singleOf (s .before .at-chip .ensures)) (c .if1 .left)
+    performed-keep (a .word) (now (a .file)) (a .machine) _
+    (s .single-word .ensures .0 ∙ ap singleOf (s .before .at-chip .ensures)) (c .if1 .left)
 
 pub perform-spec : {M : Type 1} → statement M
 perform-spec =

@@ -5,7 +5,12 @@ use native.Mathlib.Nat.{mul-le-mul}
 use native.Mathlib.Omega.{arith}
 use borrow.Author.Tests.{eq-eqb, ne-eqb}
 use Rattle.reasons.proofs.Rows.{first-bad, first-good}
-use Rattle.sheet.specs.Sheet.{registersOf, openingRows, sizeRows}
+use Rattle.reasons.specs.Reasons.{firstOf}
+use Rattle.reasons.specs.declared.Reason.{Reason}
+use Rattle.reasons.specs.declared.Check.{Check}
+use Rattle.reasons.specs.declared.Check.the-variants.{Good, Bad}
+use Rattle.sheet.specs.declared.Given.{Given}
+use Rattle.sheet.specs.Sheet.{registersOf, openingRows, sizeRows, headRows}
 use borrow.Author.Needs.{needs}
 use Rattle.sheet.proofs.check_header.Statement.{statement}
 use Rattle.sheet.proofs.check_header.Tie as tie
@@ -14,11 +19,19 @@ use Rattle.sheet.proofs.check_header.Tie as tie
 beside-le : {b n : ℕ} (h : ℕ) → b ≤ 4 → n ≡ registersOf h → b * n ≤ 4 * 128
 beside-le {b} {n} h l e = let k : n ≤ 128 = omega arith in mul-le-mul l k
 
+-- what the test of the header alone saw
+module _ (b l h : ℕ) (f : Given) {o : Check} (e : o ≡ firstOf (openingRows h)) where
+  at-opening : {r : Reason} {p : ℕ} → o ≡ Bad r p → Bad r p ≡ firstOf (headRows b l h f)
+  at-opening g = sym (first-bad (openingRows h) (sizeRows b l h f) _ _ (sym e ∙ g))
+
+  past-opening : o ≡ Good → {c : Check} → c ≡ firstOf (sizeRows b l h f) → c ≡ firstOf (headRows b l h f)
+  past-opening g s = s ∙ sym (first-good (openingRows h) (sizeRows b l h f) (sym e ∙ g))
+
 returns : tie.Need-returns
 returns c =
     let o = c .before .before .before in
     let a = o .before .args in
-    sym (first-bad (openingRows (a .h)) (sizeRows (a .beside) (a .len) (a .h) (a .file)) _ _ (sym (o .check-opening .ensures) ∙ c .before .opening .given .1))
+    at-opening (a .beside) (a .len) (a .h) (a .file) (o .check-opening .ensures) (c .before .opening .given .1)
 
 mul-if1-2 : tie.Need-mul-if1-2
 mul-if1-2 c = omega (arith, beside-le _ (c .before .before .before .before .before .pre) (c .before .registers .ensures))
@@ -30,15 +43,15 @@ returns-2 : tie.Need-returns-2
 returns-2 c =
     let o = c .before .before .before .before .before in
     let a = o .before .args in
-    sym (first-good (openingRows (a .h)) (sizeRows (a .beside) (a .len) (a .h) (a .file)) (sym (o .check-opening .ensures) ∙ c .before .before .before .enum-told .given .1)
-    ∙ rw (← c .before .count .ensures, ← c .before .before .registers .ensures, ne-eqb _ _ (c .if1 .taken)))
+    past-opening (a .beside) (a .len) (a .h) (a .file) (o .check-opening .ensures) (c .before .before .before .enum-told .given .1)
+    (rw (← c .before .count .ensures, ← c .before .before .registers .ensures, ne-eqb _ _ (c .if1 .taken)))
 
 returns-3 : tie.Need-returns-3
 returns-3 c =
     let o = c .before .before .before .before .before .before .before in
     let a = o .before .args in
-    sym (first-good (openingRows (a .h)) (sizeRows (a .beside) (a .len) (a .h) (a .file)) (sym (o .check-opening .ensures) ∙ c .before .before .before .before .before .enum-told .given .1)
-    ∙ rw (
+    past-opening (a .beside) (a .len) (a .h) (a .file) (o .check-opening .ensures) (c .before .before .before .before .before .enum-told .given .1)
+    (rw (
       ← c .before .before .before .count .ensures,
       ← c .before .before .before .before .registers .ensures,
       eq-eqb _ _ (c .before .before .if1 .left),
@@ -49,8 +62,8 @@ returns-4 : tie.Need-returns-4
 returns-4 c =
     let o = c .before .before .before .before .before .before .before in
     let a = o .before .args in
-    sym (first-good (openingRows (a .h)) (sizeRows (a .beside) (a .len) (a .h) (a .file)) (sym (o .check-opening .ensures) ∙ c .before .before .before .before .before .enum-told .given .1)
-    ∙ rw (
+    past-opening (a .beside) (a .len) (a .h) (a .file) (o .check-opening .ensures) (c .before .before .before .before .before .enum-told .given .1)
+    (rw (
       ← c .before .before .before .count .ensures,
       ← c .before .before .before .before .registers .ensures,
       eq-eqb _ _ (c .before .before .if1 .left),
