@@ -11,11 +11,14 @@ use Rattle.chip.specs.declared.SingleWord.{SingleWord}
 use Rattle.chip.specs.Single.{singleOf}
 use Rattle.packing.specs.Packing.{packOf, unpackOf}
 use Rattle.sheet.specs.Sheet.{checkOf}
+use Rattle.sheet.specs.Heading.{headingOf}
 use Rattle.sheet.specs.declared.Given.the-variants.{Absent}
 use Rattle.handler.specs.Form.{handlerOf}
 use Rattle.run.specs.Run.{runOf}
+use Rattle.run.specs.Step.{oneWordOf}
 use Rattle.interrupt.specs.Interrupt.{interruptedOf}
-use Rattle.am29332.specs.Numbers.{Leaves, leaves, singleNumbers, packNumbers, unpackNumbers, ranNumbers, interruptedNumbers}
+use Rattle.am29332.specs.Numbers.{Leaves, leaves, singleNumbers, packNumbers, unpackNumbers, headingNumbers, ranNumbers, stepNumbers, interruptedNumbers}
+use Rattle.am29332.specs.Version.{libraryVersion}
 
 -- where nothing is lent to be changed
 abbrev OneAnswer : {A : Type 0} → A → Type 0
@@ -27,11 +30,17 @@ one-answer d a b e f = e ∙ sym f
 pub one-fresh : OneAnswer freshOf
 one-fresh = one-answer freshOf
 
+pub one-library-version : OneAnswer libraryVersion
+one-library-version = one-answer libraryVersion
+
 pub one-single-word : (s : SingleWord) → OneAnswer (singleNumbers (singleOf s))
 one-single-word s = one-answer (singleNumbers (singleOf s))
 
 pub one-unpack : (bytes : List ℕ) → OneAnswer (unpackNumbers (unpackOf bytes))
 one-unpack bytes = one-answer (unpackNumbers (unpackOf bytes))
+
+pub one-read-header : (sheet : List ℕ) → OneAnswer (headingNumbers (headingOf sheet))
+one-read-header sheet = one-answer (headingNumbers (headingOf sheet))
 
 pub one-check-sheet : (sheet : List ℕ) → OneAnswer (checkNumbers (checkOf sheet Absent Absent))
 one-check-sheet sheet = one-answer (checkNumbers (checkOf sheet Absent Absent))
@@ -51,6 +60,9 @@ one-pack w bytes = one-outcome (packNumbers (packOf w bytes))
 
 pub one-run : (sheet file : List ℕ) (m : Machine) (start allowance : ℕ) → OneOutcome (ranNumbers (runOf sheet file m start allowance))
 one-run sheet file m start allowance = one-outcome (ranNumbers (runOf sheet file m start allowance))
+
+pub one-step : (sheet file : List ℕ) (m : Machine) (start : ℕ) → OneOutcome (stepNumbers (oneWordOf sheet file m start))
+one-step sheet file m start = one-outcome (stepNumbers (oneWordOf sheet file m start))
 
 pub one-interrupted-run : (main h schedule file : List ℕ) (m : Machine) → OneOutcome (interruptedNumbers (interruptedOf main h schedule file m))
 one-interrupted-run main h schedule file m = one-outcome (interruptedNumbers (interruptedOf main h schedule file m))

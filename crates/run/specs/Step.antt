@@ -1,15 +1,13 @@
 -- One word of a sheet on a lent file of registers, for a front panel or a debugger: checked as a run is, answered as a single word is.
 use mathlib.Core.List.{List, [], _∷_}
 use Prim.Native.Nat.{ℕ}
-use lib.ListN.{length, take, drop}
+use lib.ListN.{length, drop}
 use Rattle.machine.specs.declared.Machine.{Machine}
 use Rattle.machine.specs.Core.{taken, handedBack}
 use Rattle.reasons.specs.declared.Reason.{Reason}
 use Rattle.reasons.specs.declared.Reason.the-variants.{Done}
 use Rattle.reasons.specs.declared.Check.{Check}
 use Rattle.reasons.specs.declared.Check.the-variants.{Good as Passed, Bad}
-use Rattle.reasons.specs.declared.Outcome.{Outcome}
-use Rattle.reasons.specs.Reasons.{outcomeOf}
 use Rattle.chip.specs.declared.Word.{Word}
 use Rattle.chip.specs.declared.SingleWord.{SingleWord}
 use Rattle.chip.specs.declared.SingleAnswer.{SingleAnswer}
@@ -76,11 +74,3 @@ unless (Bad reason place) file m e = halted (idle reason place m) file
 unfoldable pub oneWordOf : List ℕ → List ℕ → Machine → ℕ → Halted
 oneWordOf s file m start =
     unless (checkOf s (Number (length file)) (Number start)) file m (firstOn (drop start (executionsOf s)) file m)
-
--- its reason and place in numbers: those of the refusal, or 0 and the words run, 1 or 0
-abbrev pub counted : Check → ℕ → Outcome
-counted Passed n = outcomeOf Done n
-counted (Bad reason place) n = outcomeOf reason place
-
-abbrev pub oneWordOutcome : List ℕ → ℕ → ℕ → Outcome
-oneWordOutcome s lent start = counted (checkOf s (Number lent) (Number start)) (length (take 1 (drop start (executionsOf s))))
