@@ -8,8 +8,9 @@
 # The proved library, target/staticlib/libam29332.a, is x86-64 code: a machine of
 # another kind builds both sides for x86-64 with the kit's compiler and runs
 # them in one process under the kit's emulator. Times are then those of the
-# emulator; the ratio is what to look at. PARTS may give another link order of
-# the parts, which moves the code and so the emulator's times a little.
+# emulator; the ratio is what to look at. They depend on where code lies in its
+# pages, so the table is made at four places, and has the best of each side
+# (--each is made at one).
 #
 # With --native a machine of another kind compiles both sides for itself, by the
 # kit's compiler too: see native.sh. --each times the operations one by one.
@@ -32,11 +33,9 @@ work=$(mktemp -d)
 trap 'rm -rf -- "$work"' EXIT
 trap 'exit 1' HUP INT TERM
 
-parts=${PARTS:-harness model sheets}
-
 # compile COMPILER WORDS..: the objects of the benchmark, in the work folder.
 compile() {
-    for part in $parts; do
+    for part in harness model sheets; do
         "$@" -std=c11 -O3 -Wall -Wextra -Werror -fPIE \
             -c "$here/$part.c" -o "$work/$part.o"
         objects="$objects $work/$part.o"
@@ -73,12 +72,41 @@ emulated() {
     echo "x86-64 code under the kit's emulator on $machine, $version"
     kit_compile x86_64
     lib=$chain/lib
+    case " $* " in
+    *" --each "*) placed 0 "$@" ;;
+    *)
+        for place in 0 1024 2048 3072; do
+            placed "$place" "$@" >"$work/$place.txt"
+        done
+        best "$work"/[0-9]*.txt
+        ;;
+    esac
+}
+
+# placed BYTES WORDS..: the table with all code that many bytes further on.
+placed() {
+    printf '.text\n.zero %s\n' "$1" >"$work/before.s"
+    "$chain/bin/clang" --target=x86_64-linux-gnu -c "$work/before.s" -o "$work/before.o"
+    shift
     "$chain/bin/ld.lld" -pie -dynamic-linker /lib64/ld-linux-x86-64.so.2 \
         -o "$work/harness" "$lib/Scrt1.o" "$lib/crti.o" "$lib/crtbeginS.o" \
-        $objects "$archive" "$lib/libc.so.6" \
+        "$work/before.o" $objects "$archive" "$lib/libc.so.6" \
         "$lib/libc_nonshared.a" "$lib/libgcc.a" "$lib/crtendS.o" "$lib/crtn.o"
     "$chain/bin/qemu-x86_64" "$lib/ld-linux-x86-64.so.2" --library-path "$lib" \
         "$work/harness" "$@"
+}
+
+# best FILE..: one table of several, row by row the least time of each side.
+best() {
+    awk 'FNR <= 2 { if (NR == FNR) print $0 (FNR == 1 ? ", at the best of four places" : ""); next }
+        !($1 in proved) { name[++rows] = $1; model[$1] = $2; proved[$1] = $3; what[$1] = substr($0, index($0, $4) + length($4)) }
+        { if ($2 < model[$1]) model[$1] = $2; if ($3 < proved[$1]) proved[$1] = $3 }
+        END {
+            for (i = 1; i <= rows; i++) {
+                r = name[i]
+                printf "%-11s %10.2f %10.2f %10.2f%s\n", r, model[r], proved[r], proved[r] / model[r], what[r]
+            }
+        }' "$@"
 }
 
 native() {
