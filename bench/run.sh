@@ -99,7 +99,10 @@ placed() {
 # best FILE..: one table of several, row by row the least time of each side.
 best() {
     awk 'FNR <= 2 { if (NR == FNR) print $0 (FNR == 1 ? ", at the best of four places" : ""); next }
-        !($1 in proved) { name[++rows] = $1; model[$1] = $2; proved[$1] = $3; what[$1] = substr($0, index($0, $4) + length($4)) }
+        !($1 in proved) {
+            name[++rows] = $1; model[$1] = $2; proved[$1] = $3
+            what[$1] = $0; sub(/^[^ ]+ +[^ ]+ +[^ ]+ +[^ ]+/, "", what[$1])
+        }
         { if ($2 < model[$1]) model[$1] = $2; if ($3 < proved[$1]) proved[$1] = $3 }
         END {
             for (i = 1; i <= rows; i++) {
