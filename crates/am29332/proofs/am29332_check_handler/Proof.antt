@@ -3,15 +3,9 @@ use borrow.Author.Needs.{needs}
 use Rattle.am29332.proofs.am29332_check_handler.Statement.{statement}
 use Rattle.am29332.proofs.am29332_check_handler.Tie as tie
 
-check-handler-requires : tie.Need-check-handler-requires
-check-handler-requires c κs = search needs
-
-numbered-check-requires : tie.Need-numbered-check-requires
-numbered-check-requires c κs = search needs
-
 returns : tie.Need-returns
 returns c = rw (c .numbered-check .ensures, c .before .check-handler .ensures .0)
 
 pub am29332-check-handler-spec : {M : Type 1} → statement M
 am29332-check-handler-spec =
-    tie.close (tie.spec check-handler-requires numbered-check-requires returns)
+    tie.close (tie.spec (search needs) (search needs) returns)

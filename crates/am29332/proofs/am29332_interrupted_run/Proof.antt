@@ -8,15 +8,6 @@ use borrow.Author.Needs.{needs}
 use Rattle.am29332.proofs.am29332_interrupted_run.Statement.{statement}
 use Rattle.am29332.proofs.am29332_interrupted_run.Tie as tie
 
-interrupted-requires : tie.Need-interrupted-requires
-interrupted-requires c κs = search needs
-
-numbered-requires : tie.Need-numbered-requires
-numbered-requires c κs = search needs
-
-same-length : tie.Need-same-length
-same-length c = search needs
-
 returns : tie.Need-returns
 returns c =
     let e = c .before .before .before .before .interrupted .ensures in (
@@ -26,4 +17,4 @@ returns c =
 
 pub am29332-interrupted-run-spec : {M : Type 1} → statement M
 am29332-interrupted-run-spec =
-    tie.close (tie.spec interrupted-requires numbered-requires same-length returns)
+    tie.close (tie.spec (search needs) (search needs) (search needs) returns)

@@ -5,17 +5,8 @@ use borrow.Author.Needs.{needs}
 use Rattle.am29332.proofs.am29332_pack.Statement.{statement}
 use Rattle.am29332.proofs.am29332_pack.Tie as tie
 
-pack-requires : tie.Need-pack-requires
-pack-requires c κs = search needs
-
-numbered-check-requires : tie.Need-numbered-check-requires
-numbered-check-requires c κs = search needs
-
-same-length : tie.Need-same-length
-same-length c = search needs
-
 returns : tie.Need-returns
 returns c = rw (c .numbered-check .ensures) (ap packNumbers (c .before .before .before .pack .ensures .0))
 
 pub am29332-pack-spec : {M : Type 1} → statement M
-am29332-pack-spec = tie.close (tie.spec pack-requires numbered-check-requires same-length returns)
+am29332-pack-spec = tie.close (tie.spec (search needs) (search needs) (search needs) returns)

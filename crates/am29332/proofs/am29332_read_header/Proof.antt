@@ -3,15 +3,9 @@ use borrow.Author.Needs.{needs}
 use Rattle.am29332.proofs.am29332_read_header.Statement.{statement}
 use Rattle.am29332.proofs.am29332_read_header.Tie as tie
 
-read-header-requires : tie.Need-read-header-requires
-read-header-requires c κs = search needs
-
-numbered-check-requires : tie.Need-numbered-check-requires
-numbered-check-requires c κs = search needs
-
 returns : tie.Need-returns
 returns c = rw (c .numbered-check .ensures, c .before .read-header .ensures .0)
 
 pub am29332-read-header-spec : {M : Type 1} → statement M
 am29332-read-header-spec =
-    tie.close (tie.spec read-header-requires numbered-check-requires returns)
+    tie.close (tie.spec (search needs) (search needs) returns)

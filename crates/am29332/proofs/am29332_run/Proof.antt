@@ -8,15 +8,6 @@ use borrow.Author.Needs.{needs}
 use Rattle.am29332.proofs.am29332_run.Statement.{statement}
 use Rattle.am29332.proofs.am29332_run.Tie as tie
 
-run-requires : tie.Need-run-requires
-run-requires c κs = search needs
-
-numbered-requires : tie.Need-numbered-requires
-numbered-requires c κs = search needs
-
-same-length : tie.Need-same-length
-same-length c = search needs
-
 returns : tie.Need-returns
 returns c =
     let e = c .before .before .before .before .run .ensures in (
@@ -25,4 +16,4 @@ returns c =
     )
 
 pub am29332-run-spec : {M : Type 1} → statement M
-am29332-run-spec = tie.close (tie.spec run-requires numbered-requires same-length returns)
+am29332-run-spec = tie.close (tie.spec (search needs) (search needs) (search needs) returns)

@@ -3,14 +3,8 @@ use borrow.Author.Needs.{needs}
 use Rattle.am29332.proofs.am29332_single_word.Statement.{statement}
 use Rattle.am29332.proofs.am29332_single_word.Tie as tie
 
-single-word-requires : tie.Need-single-word-requires
-single-word-requires c κs = search needs
-
-numbered-requires : tie.Need-numbered-requires
-numbered-requires c κs = search needs
-
 returns : tie.Need-returns
 returns c = rw (c .numbered .ensures, c .before .single-word .ensures .0)
 
 pub am29332-single-word-spec : {M : Type 1} → statement M
-am29332-single-word-spec = tie.close (tie.spec single-word-requires numbered-requires returns)
+am29332-single-word-spec = tie.close (tie.spec (search needs) (search needs) returns)

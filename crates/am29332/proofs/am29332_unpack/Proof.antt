@@ -3,14 +3,8 @@ use borrow.Author.Needs.{needs}
 use Rattle.am29332.proofs.am29332_unpack.Statement.{statement}
 use Rattle.am29332.proofs.am29332_unpack.Tie as tie
 
-unpack-requires : tie.Need-unpack-requires
-unpack-requires c κs = search needs
-
-numbered-check-requires : tie.Need-numbered-check-requires
-numbered-check-requires c κs = search needs
-
 returns : tie.Need-returns
 returns c = rw (c .numbered-check .ensures, c .before .before .unpack .ensures .0)
 
 pub am29332-unpack-spec : {M : Type 1} → statement M
-am29332-unpack-spec = tie.close (tie.spec unpack-requires numbered-check-requires returns)
+am29332-unpack-spec = tie.close (tie.spec (search needs) (search needs) returns)

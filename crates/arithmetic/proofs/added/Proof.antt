@@ -11,32 +11,8 @@ use borrow.Author.Needs.{needs}
 use Rattle.arithmetic.proofs.added.Statement.{statement}
 use Rattle.arithmetic.proofs.added.Tie as tie
 
-bits-requires : tie.Need-bits-requires
-bits-requires c κs = search needs
-
-sum-requires : tie.Need-sum-requires
-sum-requires c κs = search needs
-
-held-requires : tie.Need-held-requires
-held-requires c κs = search needs
-
-is-zero-requires : tie.Need-is-zero-requires
-is-zero-requires c κs = search needs
-
-sign-requires : tie.Need-sign-requires
-sign-requires c κs = search needs
-
-carry-requires : tie.Need-carry-requires
-carry-requires c κs = search needs
-
 add-status : tie.Need-add-status
 add-status c = omega (arith, c .carry .ensures, carry-lt (c .before .before .before .before .before .bits .result) (c .before .before .before .before .before .before .args .p) (c .before .before .before .before .before .before .args .r) (c .before .before .before .before .before .before .args .c) (c .before .before .before .before .before .before .pre .1))
-
-overflow-requires : tie.Need-overflow-requires
-overflow-requires c κs = search needs
-
-merge-requires : tie.Need-merge-requires
-merge-requires c κs = search needs
 
 returns : tie.Need-returns
 returns c =
@@ -53,13 +29,13 @@ pub added-spec : {M : Type 1} → statement M
 added-spec =
     tie.close
     (tie.spec
-    bits-requires
-    sum-requires
-    held-requires
-    is-zero-requires
-    sign-requires
-    carry-requires
+    (search needs)
+    (search needs)
+    (search needs)
+    (search needs)
+    (search needs)
+    (search needs)
     add-status
-    overflow-requires
-    merge-requires
+    (search needs)
+    (search needs)
     returns)

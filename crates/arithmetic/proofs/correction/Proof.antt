@@ -8,8 +8,5 @@ use Rattle.arithmetic.proofs.correction.Tie as tie
 mul-result : tie.Need-mul-result
 mul-result c = omega (arith, apart-le (c .before .args .x .status .nibbles) (c .before .pre .status .nibbles))
 
-returns : tie.Need-returns
-returns c = search needs
-
 pub correction-spec : {M : Type 1} → statement M
-correction-spec = tie.close (tie.spec mul-result returns)
+correction-spec = tie.close (tie.spec mul-result (search needs))

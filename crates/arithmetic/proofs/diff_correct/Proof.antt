@@ -9,24 +9,6 @@ use borrow.Author.Needs.{needs}
 use Rattle.arithmetic.proofs.diff_correct.Statement.{statement}
 use Rattle.arithmetic.proofs.diff_correct.Tie as tie
 
-correction-requires : tie.Need-correction-requires
-correction-requires c κs = search needs
-
-subtract-requires : tie.Need-subtract-requires
-subtract-requires c κs = search needs
-
-top-nibble-requires : tie.Need-top-nibble-requires
-top-nibble-requires c κs = search needs
-
-add-corrected : tie.Need-add-corrected
-add-corrected c = search needs
-
-sub-corrected : tie.Need-sub-corrected
-sub-corrected c = search needs
-
-corrected-requires : tie.Need-corrected-requires
-corrected-requires c κs = search needs
-
 returns : tie.Need-returns
 unfolding diffCorrect
 returns c =
@@ -39,10 +21,10 @@ pub diff-correct-spec : {M : Type 1} → statement M
 diff-correct-spec =
     tie.close
     (tie.spec
-    correction-requires
-    subtract-requires
-    top-nibble-requires
-    add-corrected
-    sub-corrected
-    corrected-requires
+    (search needs)
+    (search needs)
+    (search needs)
+    (search needs)
+    (search needs)
+    (search needs)
     returns)

@@ -4,18 +4,9 @@ use borrow.Author.Needs.{needs}
 use Rattle.arithmetic.proofs.subtract_reverse_with_carry.Statement.{statement}
 use Rattle.arithmetic.proofs.subtract_reverse_with_carry.Tie as tie
 
-carry-in-requires : tie.Need-carry-in-requires
-carry-in-requires c κs = search needs
-
-add-difference : tie.Need-add-difference
-add-difference c = search needs
-
-difference-requires : tie.Need-difference-requires
-difference-requires c κs = search needs
-
 returns : tie.Need-returns
 returns c = c .difference .ensures ∙ rw (c .before .before .carry-in .ensures .0)
 
 pub subtract-reverse-with-carry-spec : {M : Type 1} → statement M
 subtract-reverse-with-carry-spec =
-    tie.close (tie.spec carry-in-requires add-difference difference-requires returns)
+    tie.close (tie.spec (search needs) (search needs) (search needs) returns)

@@ -10,18 +10,6 @@ use borrow.Author.Needs.{needs}
 use Rattle.arithmetic.proofs.sum_correct.Statement.{statement}
 use Rattle.arithmetic.proofs.sum_correct.Tie as tie
 
-correction-requires : tie.Need-correction-requires
-correction-requires c κs = search needs
-
-add-requires : tie.Need-add-requires
-add-requires c κs = search needs
-
-top-nibble-requires : tie.Need-top-nibble-requires
-top-nibble-requires c κs = search needs
-
-corrected-requires : tie.Need-corrected-requires
-corrected-requires c κs = search needs
-
 returns : tie.Need-returns
 unfolding sumCorrect
 returns c =
@@ -33,4 +21,4 @@ returns c =
 pub sum-correct-spec : {M : Type 1} → statement M
 sum-correct-spec =
     tie.close
-    (tie.spec correction-requires add-requires top-nibble-requires corrected-requires returns)
+    (tie.spec (search needs) (search needs) (search needs) (search needs) returns)

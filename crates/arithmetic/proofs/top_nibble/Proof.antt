@@ -6,17 +6,8 @@ use borrow.Author.Needs.{needs}
 use Rattle.arithmetic.proofs.top_nibble.Statement.{statement}
 use Rattle.arithmetic.proofs.top_nibble.Tie as tie
 
-bits-requires : tie.Need-bits-requires
-bits-requires c κs = search needs
-
-sub-bit : tie.Need-sub-bit
-sub-bit c = search needs
-
-bit-requires : tie.Need-bit-requires
-bit-requires c κs = search needs
-
 returns : tie.Need-returns
 returns c = (c .bit .ensures ∙ rw (c .before .bits .ensures .0), subst (λ (f : ℕ). f < 2) (sym (c .bit .ensures)) (bit-lt _ _))
 
 pub top-nibble-spec : {M : Type 1} → statement M
-top-nibble-spec = tie.close (tie.spec bits-requires sub-bit bit-requires returns)
+top-nibble-spec = tie.close (tie.spec (search needs) (search needs) (search needs) returns)

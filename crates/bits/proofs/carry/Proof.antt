@@ -4,22 +4,10 @@ use borrow.Author.Needs.{needs}
 use Rattle.bits.proofs.carry.Statement.{statement}
 use Rattle.bits.proofs.carry.Tie as tie
 
-sub-result : tie.Need-sub-result
-sub-result c = search needs
-
-cast-result : tie.Need-cast-result
-cast-result c = search needs
-
-shl-result : tie.Need-shl-result
-shl-result c = search needs
-
-cast-result-2 : tie.Need-cast-result-2
-cast-result-2 c = search needs
-
 returns : tie.Need-returns
 returns c =
     let x = c .args in
     rw (c .pre .3) (carry-read (x .n) (x .a) (x .b) (x .c) (c .pre .0) (c .pre .1) (c .fits .a .fits) (c .fits .b .fits) (c .pre .2))
 
 pub carry-spec : {M : Type 1} → statement M
-carry-spec = tie.close (tie.spec sub-result cast-result shl-result cast-result-2 returns)
+carry-spec = tie.close (tie.spec (search needs) (search needs) (search needs) (search needs) returns)

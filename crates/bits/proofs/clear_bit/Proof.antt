@@ -5,11 +5,8 @@ use borrow.Author.Needs.{needs}
 use Rattle.bits.proofs.clear_bit.Statement.{statement}
 use Rattle.bits.proofs.clear_bit.Tie as tie
 
-shl-result : tie.Need-shl-result
-shl-result c = search needs
-
 returns : tie.Need-returns
 returns c = rw (one-shl (c .args .i) (omega arith)) (put-zero (c .args .i) (c .args .x) (omega arith) (c .fits .x .fits))
 
 pub clear-bit-spec : {M : Type 1} → statement M
-clear-bit-spec = tie.close (tie.spec shl-result returns)
+clear-bit-spec = tie.close (tie.spec (search needs) returns)

@@ -5,11 +5,8 @@ use borrow.Author.Needs.{needs}
 use Rattle.bits.proofs.cut.Statement.{statement}
 use Rattle.bits.proofs.cut.Tie as tie
 
-mask-requires : tie.Need-mask-requires
-mask-requires c κs = search needs
-
 returns : tie.Need-returns
 returns c = ap (bitAnd (c .before .args .x)) (c .mask .ensures) ∙ and-mask (c .before .args .x) (c .before .args .n)
 
 pub cut-spec : {M : Type 1} → statement M
-cut-spec = tie.close (tie.spec mask-requires returns)
+cut-spec = tie.close (tie.spec (search needs) returns)

@@ -4,15 +4,9 @@ use borrow.Author.Needs.{needs}
 use Rattle.bits.proofs.field_mask.Statement.{statement}
 use Rattle.bits.proofs.field_mask.Tie as tie
 
-mask-requires : tie.Need-mask-requires
-mask-requires c κs = search needs
-
-shl-result : tie.Need-shl-result
-shl-result c = search needs
-
 returns : tie.Need-returns
 unfolding fieldMask
 returns c = rw (c .mask .ensures)
 
 pub field-mask-spec : {M : Type 1} → statement M
-field-mask-spec = tie.close (tie.spec mask-requires shl-result returns)
+field-mask-spec = tie.close (tie.spec (search needs) (search needs) returns)

@@ -6,16 +6,10 @@ use borrow.Author.Needs.{needs}
 use Rattle.bits.proofs.four_bytes.Statement.{statement}
 use Rattle.bits.proofs.four_bytes.Tie as tie
 
-low-first-requires : tie.Need-low-first-requires
-low-first-requires c κs = search needs
-
-turned-requires : tie.Need-turned-requires
-turned-requires c κs = search needs
-
 returns : tie.Need-returns
 returns c =
     let a = c .before .before .args in
     c .turned .ensures ∙ turned-low (a .b0) (a .b1) (a .b2) (a .b3) _ (omega arith) (omega arith) (omega arith) (omega arith) (c .before .low-first .ensures)
 
 pub four-bytes-spec : {M : Type 1} → statement M
-four-bytes-spec = tie.close (tie.spec low-first-requires turned-requires returns)
+four-bytes-spec = tie.close (tie.spec (search needs) (search needs) returns)

@@ -7,9 +7,6 @@ use borrow.Author.Needs.{needs}
 use Rattle.bits.proofs.is_zero.Statement.{statement}
 use Rattle.bits.proofs.is_zero.Tie as tie
 
-top-requires : tie.Need-top-requires
-top-requires c κs = search needs
-
 returns : tie.Need-returns
 unfolding zeroOf
 returns c =
@@ -23,4 +20,4 @@ returns-2 c =
     ap flag (sym (ne-eqb _ _ (λ e. c .if1 .left (c .before .top .ensures ∙ e))) ∙ top-zero (a .n) (a .x))
 
 pub is-zero-spec : {M : Type 1} → statement M
-is-zero-spec = tie.close (tie.spec top-requires returns returns-2)
+is-zero-spec = tie.close (tie.spec (search needs) returns returns-2)

@@ -5,11 +5,8 @@ use borrow.Author.Needs.{needs}
 use Rattle.bits.proofs.merge.Statement.{statement}
 use Rattle.bits.proofs.merge.Tie as tie
 
-mask-requires : tie.Need-mask-requires
-mask-requires c κs = search needs
-
 returns : tie.Need-returns
 returns c = rw (c .mask .ensures) (merge-law (c .before .args .n) (c .before .args .s) (c .before .args .u) (omega arith) (c .before .fits .u .fits))
 
 pub merge-spec : {M : Type 1} → statement M
-merge-spec = tie.close (tie.spec mask-requires returns)
+merge-spec = tie.close (tie.spec (search needs) returns)

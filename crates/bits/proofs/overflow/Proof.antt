@@ -5,12 +5,6 @@ use borrow.Author.Needs.{needs}
 use Rattle.bits.proofs.overflow.Statement.{statement}
 use Rattle.bits.proofs.overflow.Tie as tie
 
-low-requires : tie.Need-low-requires
-low-requires c κs = search needs
-
-sign-requires : tie.Need-sign-requires
-sign-requires c κs = search needs
-
 returns : tie.Need-returns
 returns c =
     let x = c .before .before .args in
@@ -18,4 +12,4 @@ returns c =
     c .sign .ensures ∙ rw (c .before .low .ensures, p .3) (overflow-read (x .n) (x .a) (x .b) (x .c) (p .0) (p .1) (p .2))
 
 pub overflow-spec : {M : Type 1} → statement M
-overflow-spec = tie.close (tie.spec low-requires sign-requires returns)
+overflow-spec = tie.close (tie.spec (search needs) (search needs) returns)

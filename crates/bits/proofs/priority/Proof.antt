@@ -12,15 +12,9 @@ use borrow.Author.Needs.{needs}
 use Rattle.bits.proofs.priority.Statement.{statement}
 use Rattle.bits.proofs.priority.Tie as tie
 
-cut-requires : tie.Need-cut-requires
-cut-requires c κs = search needs
-
 returns : tie.Need-returns
 unfolding priorityOf
 returns c = simp (eq-eqb _ _ (sym (c .before .cut .ensures) ∙ c .if1 .taken))
-
-sub-result : tie.Need-sub-result
-sub-result c = search needs
 
 -- the leading zeros of the cut word, as 32 bits and as n
 zeros : (c : tie.Else1) → leadingZeros 32 (c .before .cut .result) ≡ leadingZeros (c .before .before .args .n) (c .before .cut .result) + (32 - c .before .before .args .n)
@@ -38,4 +32,4 @@ returns-2 c =
     (rw (← c .before .cut .ensures) (omega (arith, zeros c)))
 
 pub priority-spec : {M : Type 1} → statement M
-priority-spec = tie.close (tie.spec cut-requires returns sub-result sub-result-2 returns-2)
+priority-spec = tie.close (tie.spec (search needs) returns (search needs) sub-result-2 returns-2)

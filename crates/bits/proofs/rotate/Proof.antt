@@ -11,17 +11,8 @@ returns : tie.Need-returns
 unfolding rotatedUp
 returns c = let e : c .before .args .k ≡ 0 = c .if1 .taken in rw e (omega arith)
 
-shl-result : tie.Need-shl-result
-shl-result c = search needs
-
-sub-result : tie.Need-sub-result
-sub-result c = search needs
-
-shr-result : tie.Need-shr-result
-shr-result c = search needs
-
 returns-2 : tie.Need-returns-2
 returns-2 c = rotate-law (c .before .args .k) (c .before .args .x) (omega arith) (c .before .fits .x .fits)
 
 pub rotate-spec : {M : Type 1} → statement M
-rotate-spec = tie.close (tie.spec returns shl-result sub-result shr-result returns-2)
+rotate-spec = tie.close (tie.spec returns (search needs) (search needs) (search needs) returns-2)

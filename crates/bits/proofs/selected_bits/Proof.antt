@@ -7,15 +7,6 @@ use borrow.Author.Needs.{needs}
 use Rattle.bits.proofs.selected_bits.Statement.{statement}
 use Rattle.bits.proofs.selected_bits.Tie as tie
 
-sub-result : tie.Need-sub-result
-sub-result c = search needs
-
-mul-result : tie.Need-mul-result
-mul-result c = search needs
-
-sub-result-2 : tie.Need-sub-result-2
-sub-result-2 c = search needs
-
 counted : (code : ℕ) → code < 4 → (32 - (4 - code) % 4 * 8 ≡ selected code) × (8 ≤ 32 - (4 - code) % 4 * 8) × (32 - (4 - code) % 4 * 8 ≤ 32)
 counted zero h = (refl, omega arith, omega arith)
 counted (suc zero) h = (refl, omega arith, omega arith)
@@ -27,4 +18,4 @@ returns : tie.Need-returns
 returns c = counted (c .args .code) (omega arith)
 
 pub selected-bits-spec : {M : Type 1} → statement M
-selected-bits-spec = tie.close (tie.spec sub-result mul-result sub-result-2 returns)
+selected-bits-spec = tie.close (tie.spec (search needs) (search needs) (search needs) returns)

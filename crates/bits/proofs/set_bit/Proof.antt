@@ -5,11 +5,8 @@ use borrow.Author.Needs.{needs}
 use Rattle.bits.proofs.set_bit.Statement.{statement}
 use Rattle.bits.proofs.set_bit.Tie as tie
 
-shl-result : tie.Need-shl-result
-shl-result c = search needs
-
 returns : tie.Need-returns
 returns c = rw (one-shl (c .args .i) (omega arith)) (put-one (c .args .i) (c .args .x))
 
 pub set-bit-spec : {M : Type 1} → statement M
-set-bit-spec = tie.close (tie.spec shl-result returns)
+set-bit-spec = tie.close (tie.spec (search needs) returns)

@@ -7,13 +7,10 @@ use borrow.Author.Needs.{needs}
 use Rattle.bits.proofs.sign.Statement.{statement}
 use Rattle.bits.proofs.sign.Tie as tie
 
-top-requires : tie.Need-top-requires
-top-requires c κs = search needs
-
 returns : tie.Need-returns
 returns c =
     let a = c .before .args in
     ap (λ (y : ℕ). y / 2 ^ 31) (c .top .ensures) ∙ top-sign (a .n) (a .x) (omega arith) (omega arith)
 
 pub sign-spec : {M : Type 1} → statement M
-sign-spec = tie.close (tie.spec top-requires returns)
+sign-spec = tie.close (tie.spec (search needs) returns)

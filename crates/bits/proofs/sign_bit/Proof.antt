@@ -6,14 +6,8 @@ use borrow.Author.Needs.{needs}
 use Rattle.bits.proofs.sign_bit.Statement.{statement}
 use Rattle.bits.proofs.sign_bit.Tie as tie
 
-sub-result : tie.Need-sub-result
-sub-result c = search needs
-
-shl-result : tie.Need-shl-result
-shl-result c = search needs
-
 returns : tie.Need-returns
 returns c = rw (one-shl (c .args .n - 1) (omega arith)) (and-bit (c .args .n - 1) (c .args .x))
 
 pub sign-bit-spec : {M : Type 1} → statement M
-sign-bit-spec = tie.close (tie.spec sub-result shl-result returns)
+sign-bit-spec = tie.close (tie.spec (search needs) (search needs) returns)

@@ -5,19 +5,10 @@ use borrow.Author.Needs.{needs}
 use Rattle.bits.proofs.subtract.Statement.{statement}
 use Rattle.bits.proofs.subtract.Tie as tie
 
-wrapping-sub-u32-requires : tie.Need-wrapping-sub-u32-requires
-wrapping-sub-u32-requires c κs = search needs
-
-sub-wrapping-sub-u32 : tie.Need-sub-wrapping-sub-u32
-sub-wrapping-sub-u32 c = search needs
-
-wrapping-sub-u32-requires-2 : tie.Need-wrapping-sub-u32-requires-2
-wrapping-sub-u32-requires-2 c κs = search needs
-
 returns : tie.Need-returns
 returns c = sub-wrap (c .before .before .args .a) (c .before .before .args .b) (c .before .before .args .c) (c .before .wrapping-sub-u32 .result) (c .wrapping-sub-u322 .result) (c .before .before .fits .a .fits) (c .before .before .fits .b .fits) (omega arith) (omega arith) (omega arith) (c .before .wrapping-sub-u32 .ensures) (c .wrapping-sub-u322 .ensures)
 
 pub subtract-spec : {M : Type 1} → statement M
 subtract-spec =
     tie.close
-    (tie.spec wrapping-sub-u32-requires sub-wrapping-sub-u32 wrapping-sub-u32-requires-2 returns)
+    (tie.spec (search needs) (search needs) (search needs) returns)

@@ -7,12 +7,6 @@ use borrow.Author.Needs.{needs}
 use Rattle.bits.proofs.top.Statement.{statement}
 use Rattle.bits.proofs.top.Tie as tie
 
-sub-result : tie.Need-sub-result
-sub-result c = search needs
-
-shl-result : tie.Need-shl-result
-shl-result c = search needs
-
 returns : tie.Need-returns
 returns c =
     let a = c .args in
@@ -20,4 +14,4 @@ returns c =
     shl-law (32 - a .n) (a .x) (omega arith) ∙ ap (λ (k : ℕ). a .x % 2 ^ k * 2 ^ (32 - a .n)) e
 
 pub top-spec : {M : Type 1} → statement M
-top-spec = tie.close (tie.spec sub-result shl-result returns)
+top-spec = tie.close (tie.spec (search needs) (search needs) returns)

@@ -6,12 +6,6 @@ use borrow.Author.Needs.{needs}
 use Rattle.chip.proofs.admit.Statement.{statement}
 use Rattle.chip.proofs.admit.Tie as tie
 
-out-of-range-requires : tie.Need-out-of-range-requires
-out-of-range-requires c κs = search needs
-
-refuse-requires : tie.Need-refuse-requires
-refuse-requires c κs = search needs
-
 returns : tie.Need-returns
 returns c = c .refuse .ensures ∙ refused-inputs (c .before .before .before .args .s) (c .before .before .before .args .operation) (c .before .before .before .pre) (sym (c .before .before .out-of-range .ensures) ∙ c .before .if1 .taken)
 
@@ -23,4 +17,4 @@ returns-2 c = c .answer .ensures ∙ answered (c .before .before .before .args .
 
 pub admit-spec : {M : Type 1} → statement M
 admit-spec =
-    tie.close (tie.spec out-of-range-requires refuse-requires returns answer-requires returns-2)
+    tie.close (tie.spec (search needs) (search needs) returns answer-requires returns-2)

@@ -10,17 +10,8 @@ use borrow.Author.Needs.{needs}
 use Rattle.chip.proofs.answer.Statement.{statement}
 use Rattle.chip.proofs.answer.Tie as tie
 
-inputs-requires : tie.Need-inputs-requires
-inputs-requires c κs = search needs
-
 perform-requires : tie.Need-perform-requires
 perform-requires c κs = rw (c .inputs .ensures) (c .before .pre .1)
-
-shown-requires : tie.Need-shown-requires
-shown-requires c κs = search needs
-
-parity-requires : tie.Need-parity-requires
-parity-requires c κs = search needs
 
 read-requires : tie.Need-read-requires
 read-requires c κs =
@@ -41,4 +32,4 @@ returns c =
 
 pub answer-spec : {M : Type 1} → statement M
 answer-spec =
-    tie.close (tie.spec inputs-requires perform-requires shown-requires parity-requires read-requires returns)
+    tie.close (tie.spec (search needs) perform-requires (search needs) (search needs) read-requires returns)

@@ -3,11 +3,8 @@ use borrow.Author.Needs.{needs}
 use Rattle.chip.proofs.inputs.Statement.{statement}
 use Rattle.chip.proofs.inputs.Tie as tie
 
-enter-requires : tie.Need-enter-requires
-enter-requires c κs = search needs
-
 returns : tie.Need-returns
 returns c = rw (c .before .enter .ensures)
 
 pub inputs-spec : {M : Type 1} → statement M
-inputs-spec = tie.close (tie.spec enter-requires returns)
+inputs-spec = tie.close (tie.spec (search needs) returns)

@@ -5,18 +5,6 @@ use borrow.Author.Needs.{needs}
 use Rattle.chip.proofs.single_word.Statement.{statement}
 use Rattle.chip.proofs.single_word.Tie as tie
 
-decode-requires : tie.Need-decode-requires
-decode-requires c κs = search needs
-
-enum-told : tie.Need-enum-told
-enum-told c = search needs
-
-refuse-requires : tie.Need-refuse-requires
-refuse-requires c κs = search needs
-
-enum-known-operation : tie.Need-enum-known-operation
-enum-known-operation c = search needs
-
 admit-requires : tie.Need-admit-requires
 admit-requires c κs = sym (c .before .before .before .decode .ensures) ∙ c .before .operation .given .1
 
@@ -32,10 +20,10 @@ pub single-word-spec : {M : Type 1} → statement M
 single-word-spec =
     tie.close
     (tie.spec
-    decode-requires
-    enum-told
-    refuse-requires
-    enum-known-operation
+    (search needs)
+    (search needs)
+    (search needs)
+    (search needs)
     admit-requires
     returns
     returns-2)

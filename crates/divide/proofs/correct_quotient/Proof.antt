@@ -10,41 +10,11 @@ use borrow.Author.Needs.{needs}
 use Rattle.divide.proofs.correct_quotient.Statement.{statement}
 use Rattle.divide.proofs.correct_quotient.Tie as tie
 
-held-requires : tie.Need-held-requires
-held-requires c κs = search needs
-
-printed-test-requires : tie.Need-printed-test-requires
-printed-test-requires c κs = search needs
-
 returns : tie.Need-returns
 unfolding QUOCORR
 returns c =
     let t : printedTest (c .before .before .before .args .x) ≡ 0 = sym (c .before .printed-test .ensures) ∙ c .if1 .taken in
     rw (c .before .before .held .ensures, choose-zero _ _ _ t, choose-zero _ _ _ t, choose-zero _ _ _ t, merged-same)
-
-bits-requires : tie.Need-bits-requires
-bits-requires c κs = search needs
-
-sub-less : tie.Need-sub-less
-sub-less c = search needs
-
-operand-requires : tie.Need-operand-requires
-operand-requires c κs = search needs
-
-add-requires : tie.Need-add-requires
-add-requires c κs = search needs
-
-sum-requires : tie.Need-sum-requires
-sum-requires c κs = search needs
-
-carry-requires : tie.Need-carry-requires
-carry-requires c κs = search needs
-
-overflow-requires : tie.Need-overflow-requires
-overflow-requires c κs = search needs
-
-merge-requires : tie.Need-merge-requires
-merge-requires c κs = search needs
 
 returns-2 : tie.Need-returns-2
 unfolding QUOCORR
@@ -59,15 +29,15 @@ pub correct-quotient-spec : {M : Type 1} → statement M
 correct-quotient-spec =
     tie.close
     (tie.spec
-    held-requires
-    printed-test-requires
+    (search needs)
+    (search needs)
     returns
-    bits-requires
-    sub-less
-    operand-requires
-    add-requires
-    sum-requires
-    carry-requires
-    overflow-requires
-    merge-requires
+    (search needs)
+    (search needs)
+    (search needs)
+    (search needs)
+    (search needs)
+    (search needs)
+    (search needs)
+    (search needs)
     returns-2)

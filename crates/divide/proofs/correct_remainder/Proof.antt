@@ -10,26 +10,11 @@ use borrow.Author.Needs.{needs}
 use Rattle.divide.proofs.correct_remainder.Statement.{statement}
 use Rattle.divide.proofs.correct_remainder.Tie as tie
 
-held-requires : tie.Need-held-requires
-held-requires c κs = search needs
-
-remainder-test-requires : tie.Need-remainder-test-requires
-remainder-test-requires c κs = search needs
-
 returns : tie.Need-returns
 unfolding REMCORR
 returns c =
     let t : remainderTest (c .before .before .before .args .x) ≡ 0 = sym (c .before .remainder-test .ensures) ∙ c .if1 .taken in
     rw (c .before .before .held .ensures, choose-zero _ _ _ t, choose-zero _ _ _ t, merged-same)
-
-bits-requires : tie.Need-bits-requires
-bits-requires c κs = search needs
-
-form-requires : tie.Need-form-requires
-form-requires c κs = search needs
-
-merge-requires : tie.Need-merge-requires
-merge-requires c κs = search needs
 
 returns-2 : tie.Need-returns-2
 unfolding REMCORR
@@ -42,4 +27,4 @@ returns-2 c =
 pub correct-remainder-spec : {M : Type 1} → statement M
 correct-remainder-spec =
     tie.close
-    (tie.spec held-requires remainder-test-requires returns bits-requires form-requires merge-requires returns-2)
+    (tie.spec (search needs) (search needs) returns (search needs) (search needs) (search needs) returns-2)

@@ -3,11 +3,8 @@ use borrow.Author.Needs.{needs}
 use Rattle.divide.proofs.link_to_s.Statement.{statement}
 use Rattle.divide.proofs.link_to_s.Tie as tie
 
-held-requires : tie.Need-held-requires
-held-requires c κs = search needs
-
 returns : tie.Need-returns
 returns c = rw (c .held .ensures)
 
 pub link-to-s-spec : {M : Type 1} → statement M
-link-to-s-spec = tie.close (tie.spec held-requires returns)
+link-to-s-spec = tie.close (tie.spec (search needs) returns)

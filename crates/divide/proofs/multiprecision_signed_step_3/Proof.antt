@@ -6,27 +6,6 @@ use borrow.Author.Needs.{needs}
 use Rattle.divide.proofs.multiprecision_signed_step_3.Statement.{statement}
 use Rattle.divide.proofs.multiprecision_signed_step_3.Tie as tie
 
-bits-requires : tie.Need-bits-requires
-bits-requires c κs = search needs
-
-step-carry-requires : tie.Need-step-carry-requires
-step-carry-requires c κs = search needs
-
-form-requires : tie.Need-form-requires
-form-requires c κs = search needs
-
-signed-bit-requires : tie.Need-signed-bit-requires
-signed-bit-requires c κs = search needs
-
-step-link-requires : tie.Need-step-link-requires
-step-link-requires c κs = search needs
-
-put-q-requires : tie.Need-put-q-requires
-put-q-requires c κs = search needs
-
-step-on-bytes-requires : tie.Need-step-on-bytes-requires
-step-on-bytes-requires c κs = search needs
-
 returns : tie.Need-returns
 unfolding MPSDIVSTEP3
 returns c =
@@ -37,11 +16,11 @@ pub multiprecision-signed-step-3-spec : {M : Type 1} → statement M
 multiprecision-signed-step-3-spec =
     tie.close
     (tie.spec
-    bits-requires
-    step-carry-requires
-    form-requires
-    signed-bit-requires
-    step-link-requires
-    put-q-requires
-    step-on-bytes-requires
+    (search needs)
+    (search needs)
+    (search needs)
+    (search needs)
+    (search needs)
+    (search needs)
+    (search needs)
     returns)

@@ -4,19 +4,10 @@ use borrow.Author.Needs.{needs}
 use Rattle.divide.proofs.multiprecision_step_1.Statement.{statement}
 use Rattle.divide.proofs.multiprecision_step_1.Tie as tie
 
-sign-q-requires : tie.Need-sign-q-requires
-sign-q-requires c κs = search needs
-
-shift-q-requires : tie.Need-shift-q-requires
-shift-q-requires c κs = search needs
-
-step-on-word-requires : tie.Need-step-on-word-requires
-step-on-word-requires c κs = search needs
-
 returns : tie.Need-returns
 unfolding MPDIVSTEP1
 returns c = rw (c .step-on-word .ensures, c .before .shift-q .ensures, c .before .before .sign-q .ensures .0)
 
 pub multiprecision-step-1-spec : {M : Type 1} → statement M
 multiprecision-step-1-spec =
-    tie.close (tie.spec sign-q-requires shift-q-requires step-on-word-requires returns)
+    tie.close (tie.spec (search needs) (search needs) (search needs) returns)

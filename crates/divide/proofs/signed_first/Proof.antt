@@ -7,30 +7,6 @@ use borrow.Author.Needs.{needs}
 use Rattle.divide.proofs.signed_first.Statement.{statement}
 use Rattle.divide.proofs.signed_first.Tie as tie
 
-signed-bit-requires : tie.Need-signed-bit-requires
-signed-bit-requires c κs = search needs
-
-bits-requires : tie.Need-bits-requires
-bits-requires c κs = search needs
-
-sign-requires : tie.Need-sign-requires
-sign-requires c κs = search needs
-
-sign-q-requires : tie.Need-sign-q-requires
-sign-q-requires c κs = search needs
-
-shift-up-requires : tie.Need-shift-up-requires
-shift-up-requires c κs = search needs
-
-result-requires : tie.Need-result-requires
-result-requires c κs = search needs
-
-held-requires : tie.Need-held-requires
-held-requires c κs = search needs
-
-shift-q-requires : tie.Need-shift-q-requires
-shift-q-requires c κs = search needs
-
 returns : tie.Need-returns
 unfolding SDIVFIRST
 returns c =
@@ -41,11 +17,11 @@ pub signed-first-spec : {M : Type 1} → statement M
 signed-first-spec =
     tie.close
     (tie.spec
-    signed-bit-requires
-    bits-requires
-    sign-requires
-    sign-q-requires
-    shift-up-requires
-    result-requires
-    held-requires shift-q-requires
+    (search needs)
+    (search needs)
+    (search needs)
+    (search needs)
+    (search needs)
+    (search needs)
+    (search needs) (search needs)
     returns)

@@ -7,24 +7,6 @@ use borrow.Author.Needs.{needs}
 use Rattle.divide.proofs.signed_last_1.Statement.{statement}
 use Rattle.divide.proofs.signed_last_1.Tie as tie
 
-bits-requires : tie.Need-bits-requires
-bits-requires c κs = search needs
-
-form-requires : tie.Need-form-requires
-form-requires c κs = search needs
-
-result-requires : tie.Need-result-requires
-result-requires c κs = search needs
-
-held-requires : tie.Need-held-requires
-held-requires c κs = search needs
-
-signed-bit-requires : tie.Need-signed-bit-requires
-signed-bit-requires c κs = search needs
-
-shift-q-requires : tie.Need-shift-q-requires
-shift-q-requires c κs = search needs
-
 returns : tie.Need-returns
 unfolding SDIVLAST1
 returns c =
@@ -35,9 +17,9 @@ pub signed-last-1-spec : {M : Type 1} → statement M
 signed-last-1-spec =
     tie.close
     (tie.spec
-    bits-requires
-    form-requires
-    result-requires
-    held-requires signed-bit-requires
-    shift-q-requires
+    (search needs)
+    (search needs)
+    (search needs)
+    (search needs) (search needs)
+    (search needs)
     returns)

@@ -6,30 +6,6 @@ use borrow.Author.Needs.{needs}
 use Rattle.divide.proofs.signed_last_2.Statement.{statement}
 use Rattle.divide.proofs.signed_last_2.Tie as tie
 
-sign-q-requires : tie.Need-sign-q-requires
-sign-q-requires c κs = search needs
-
-add-sign : tie.Need-add-sign
-add-sign c = search needs
-
-operand-requires : tie.Need-operand-requires
-operand-requires c κs = search needs
-
-add-requires : tie.Need-add-requires
-add-requires c κs = search needs
-
-held-requires : tie.Need-held-requires
-held-requires c κs = search needs
-
-zero-if-negative-requires : tie.Need-zero-if-negative-requires
-zero-if-negative-requires c κs = search needs
-
-bits-requires : tie.Need-bits-requires
-bits-requires c κs = search needs
-
-merge-requires : tie.Need-merge-requires
-merge-requires c κs = search needs
-
 returns : tie.Need-returns
 unfolding SDIVLAST2
 returns c =
@@ -40,11 +16,11 @@ pub signed-last-2-spec : {M : Type 1} → statement M
 signed-last-2-spec =
     tie.close
     (tie.spec
-    sign-q-requires
-    add-sign
-    operand-requires
-    add-requires
-    held-requires zero-if-negative-requires
-    bits-requires
-    merge-requires
+    (search needs)
+    (search needs)
+    (search needs)
+    (search needs)
+    (search needs) (search needs)
+    (search needs)
+    (search needs)
     returns)

@@ -7,33 +7,6 @@ use borrow.Author.Needs.{needs}
 use Rattle.divide.proofs.signed_step.Statement.{statement}
 use Rattle.divide.proofs.signed_step.Tie as tie
 
-bits-requires : tie.Need-bits-requires
-bits-requires c κs = search needs
-
-form-requires : tie.Need-form-requires
-form-requires c κs = search needs
-
-signed-bit-requires : tie.Need-signed-bit-requires
-signed-bit-requires c κs = search needs
-
-sign-q-requires : tie.Need-sign-q-requires
-sign-q-requires c κs = search needs
-
-shift-up-requires : tie.Need-shift-up-requires
-shift-up-requires c κs = search needs
-
-result-requires : tie.Need-result-requires
-result-requires c κs = search needs
-
-held-requires : tie.Need-held-requires
-held-requires c κs = search needs
-
-sign-requires : tie.Need-sign-requires
-sign-requires c κs = search needs
-
-shift-q-requires : tie.Need-shift-q-requires
-shift-q-requires c κs = search needs
-
 returns : tie.Need-returns
 unfolding SDIVSTEP
 returns c =
@@ -44,12 +17,12 @@ pub signed-step-spec : {M : Type 1} → statement M
 signed-step-spec =
     tie.close
     (tie.spec
-    bits-requires
-    form-requires
-    signed-bit-requires
-    sign-q-requires
-    shift-up-requires
-    result-requires
-    held-requires sign-requires
-    shift-q-requires
+    (search needs)
+    (search needs)
+    (search needs)
+    (search needs)
+    (search needs)
+    (search needs)
+    (search needs) (search needs)
+    (search needs)
     returns)

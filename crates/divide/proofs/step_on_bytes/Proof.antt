@@ -5,24 +5,6 @@ use borrow.Author.Needs.{needs}
 use Rattle.divide.proofs.step_on_bytes.Statement.{statement}
 use Rattle.divide.proofs.step_on_bytes.Tie as tie
 
-bits-requires : tie.Need-bits-requires
-bits-requires c κs = search needs
-
-shift-up-requires : tie.Need-shift-up-requires
-shift-up-requires c κs = search needs
-
-held-requires : tie.Need-held-requires
-held-requires c κs = search needs
-
-is-zero-requires : tie.Need-is-zero-requires
-is-zero-requires c κs = search needs
-
-sign-requires : tie.Need-sign-requires
-sign-requires c κs = search needs
-
-merge-requires : tie.Need-merge-requires
-merge-requires c κs = search needs
-
 returns : tie.Need-returns
 returns c =
     let h = bits-le (c .before .before .before .before .before .before .args .x) (c .before .before .before .before .before .before .pre .0) in
@@ -32,9 +14,9 @@ pub step-on-bytes-spec : {M : Type 1} → statement M
 step-on-bytes-spec =
     tie.close
     (tie.spec
-    bits-requires
-    shift-up-requires
-    held-requires is-zero-requires
-    sign-requires
-    merge-requires
+    (search needs)
+    (search needs)
+    (search needs) (search needs)
+    (search needs)
+    (search needs)
     returns)

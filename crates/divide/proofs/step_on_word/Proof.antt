@@ -6,21 +6,6 @@ use borrow.Author.Needs.{needs}
 use Rattle.divide.proofs.step_on_word.Statement.{statement}
 use Rattle.divide.proofs.step_on_word.Tie as tie
 
-form-requires : tie.Need-form-requires
-form-requires c κs = search needs
-
-shift-up-requires : tie.Need-shift-up-requires
-shift-up-requires c κs = search needs
-
-held-requires : tie.Need-held-requires
-held-requires c κs = search needs
-
-is-zero-requires : tie.Need-is-zero-requires
-is-zero-requires c κs = search needs
-
-sign-requires : tie.Need-sign-requires
-sign-requires c κs = search needs
-
 returns : tie.Need-returns
 returns c =
     let h : 32 ≤ 32 = omega arith in
@@ -28,4 +13,4 @@ returns c =
 
 pub step-on-word-spec : {M : Type 1} → statement M
 step-on-word-spec =
-    tie.close (tie.spec form-requires shift-up-requires held-requires is-zero-requires sign-requires returns)
+    tie.close (tie.spec (search needs) (search needs) (search needs) (search needs) (search needs) returns)

@@ -7,27 +7,6 @@ use borrow.Author.Needs.{needs}
 use Rattle.divide.proofs.unsigned_first.Statement.{statement}
 use Rattle.divide.proofs.unsigned_first.Tie as tie
 
-sign-q-requires : tie.Need-sign-q-requires
-sign-q-requires c κs = search needs
-
-shift-up-requires : tie.Need-shift-up-requires
-shift-up-requires c κs = search needs
-
-result-requires : tie.Need-result-requires
-result-requires c κs = search needs
-
-held-requires : tie.Need-held-requires
-held-requires c κs = search needs
-
-bits-requires : tie.Need-bits-requires
-bits-requires c κs = search needs
-
-sign-requires : tie.Need-sign-requires
-sign-requires c κs = search needs
-
-shift-q-requires : tie.Need-shift-q-requires
-shift-q-requires c κs = search needs
-
 returns : tie.Need-returns
 unfolding UDIVFIRST
 returns c =
@@ -38,10 +17,10 @@ pub unsigned-first-spec : {M : Type 1} → statement M
 unsigned-first-spec =
     tie.close
     (tie.spec
-    sign-q-requires
-    shift-up-requires
-    result-requires
-    held-requires bits-requires
-    sign-requires
-    shift-q-requires
+    (search needs)
+    (search needs)
+    (search needs)
+    (search needs) (search needs)
+    (search needs)
+    (search needs)
     returns)

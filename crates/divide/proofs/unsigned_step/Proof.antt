@@ -6,27 +6,6 @@ use borrow.Author.Needs.{needs}
 use Rattle.divide.proofs.unsigned_step.Statement.{statement}
 use Rattle.divide.proofs.unsigned_step.Tie as tie
 
-bits-requires : tie.Need-bits-requires
-bits-requires c κs = search needs
-
-form-requires : tie.Need-form-requires
-form-requires c κs = search needs
-
-unsigned-bit-requires : tie.Need-unsigned-bit-requires
-unsigned-bit-requires c κs = search needs
-
-sign-q-requires : tie.Need-sign-q-requires
-sign-q-requires c κs = search needs
-
-shift-q-requires : tie.Need-shift-q-requires
-shift-q-requires c κs = search needs
-
-step-on-bytes-requires : tie.Need-step-on-bytes-requires
-step-on-bytes-requires c κs = search needs
-
-link-to-s-requires : tie.Need-link-to-s-requires
-link-to-s-requires c κs = search needs
-
 returns : tie.Need-returns
 unfolding UDIVSTEP
 returns c =
@@ -37,11 +16,11 @@ pub unsigned-step-spec : {M : Type 1} → statement M
 unsigned-step-spec =
     tie.close
     (tie.spec
-    bits-requires
-    form-requires
-    unsigned-bit-requires
-    sign-q-requires
-    shift-q-requires
-    step-on-bytes-requires
-    link-to-s-requires
+    (search needs)
+    (search needs)
+    (search needs)
+    (search needs)
+    (search needs)
+    (search needs)
+    (search needs)
     returns)

@@ -4,15 +4,9 @@ use borrow.Author.Needs.{needs}
 use Rattle.handler.proofs.body_fault.Statement.{statement}
 use Rattle.handler.proofs.body_fault.Tie as tie
 
-names-requires : tie.Need-names-requires
-names-requires c κs = search needs
-
-meet-requires : tie.Need-meet-requires
-meet-requires c κs = search needs
-
 returns : tie.Need-returns
 unfolding bodyFault
 returns c = rw (c .meet .ensures, c .before .names .ensures)
 
 pub body-fault-spec : {M : Type 1} → statement M
-body-fault-spec = tie.close (tie.spec names-requires meet-requires returns)
+body-fault-spec = tie.close (tie.spec (search needs) (search needs) returns)

@@ -10,19 +10,10 @@ use borrow.Author.Needs.{needs}
 use Rattle.handler.proofs.check_handler.Statement.{statement}
 use Rattle.handler.proofs.check_handler.Tie as tie
 
-check-sheet-requires : tie.Need-check-sheet-requires
-check-sheet-requires c κs = search needs
-
-enum-known-own : tie.Need-enum-known-own
-enum-known-own c = search needs
-
 returns : tie.Need-returns
 returns c =
     also checkNumbers
     (handler-own (now (c .before .before .before .before .before .args .s)) _ _ (sym (c .before .before .before .check-sheet .ensures .0) ∙ c .before .own .given .1))
-
-enum-told : tie.Need-enum-told
-enum-told c = search needs
 
 form-requires : tie.Need-form-requires
 form-requires c κs =
@@ -39,9 +30,9 @@ pub check-handler-spec : {M : Type 1} → statement M
 check-handler-spec =
     tie.close
     (tie.spec
-    check-sheet-requires
-    enum-known-own
+    (search needs)
+    (search needs)
     returns
-    enum-told
+    (search needs)
     form-requires
     returns-2)

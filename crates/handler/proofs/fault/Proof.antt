@@ -7,32 +7,17 @@ use borrow.Author.Needs.{needs}
 use Rattle.handler.proofs.fault.Statement.{statement}
 use Rattle.handler.proofs.fault.Tie as tie
 
-saves-requires : tie.Need-saves-requires
-saves-requires c κs = search needs
-
-saving-status-fault-requires : tie.Need-saving-status-fault-requires
-saving-status-fault-requires c κs = search needs
-
 returns : tie.Need-returns
 unfolding faultAt
 returns c = c .saving-status-fault .ensures ∙ rw (c .before .before .saves .ensures) (sym (rw (eq-eqb _ _ (c .before .if1 .taken)) refl))
-
-saving-q-fault-requires : tie.Need-saving-q-fault-requires
-saving-q-fault-requires c κs = search needs
 
 returns-2 : tie.Need-returns-2
 unfolding faultAt
 returns-2 c = c .saving-q-fault .ensures ∙ rw (c .before .before .before .saves .ensures) (sym (rw (ne-eqb _ _ (c .before .before .if1 .left), eq-eqb _ _ (c .before .if2 .taken)) refl))
 
-loading-fault-requires : tie.Need-loading-fault-requires
-loading-fault-requires c κs = search needs
-
 returns-3 : tie.Need-returns-3
 unfolding faultAt
 returns-3 c = c .loading-fault .ensures ∙ rw (c .before .before .before .before .saves .ensures) (sym (rw (ne-eqb _ _ (c .before .before .before .if1 .left), ne-eqb _ _ (c .before .before .if2 .left), eq-eqb _ _ (c .before .if3 .taken)) refl))
-
-loading-fault-requires-2 : tie.Need-loading-fault-requires-2
-loading-fault-requires-2 c κs = search needs
 
 returns-4 : tie.Need-returns-4
 unfolding faultAt
@@ -41,9 +26,6 @@ returns-4 c = c .loading-fault2 .ensures ∙ rw (c .before .before .before .befo
 sub-if5 : tie.Need-sub-if5
 sub-if5 c = omega arith
 
-giving-back-fault-requires : tie.Need-giving-back-fault-requires
-giving-back-fault-requires c κs = search needs
-
 returns-5 : tie.Need-returns-5
 unfolding faultAt
 returns-5 c = c .giving-back-fault .ensures ∙ rw (c .before .before .before .before .before .before .saves .ensures) (sym (rw (ne-eqb _ _ (c .before .before .before .before .before .if1 .left), ne-eqb _ _ (c .before .before .before .before .if2 .left), ne-eqb _ _ (c .before .before .before .if3 .left), ne-eqb _ _ (c .before .before .if4 .left), eq-eqb _ _ (c .before .if5 .taken)) refl))
@@ -51,15 +33,9 @@ returns-5 c = c .giving-back-fault .ensures ∙ rw (c .before .before .before .b
 sub-if6 : tie.Need-sub-if6
 sub-if6 c = omega arith
 
-giving-back-fault-requires-2 : tie.Need-giving-back-fault-requires-2
-giving-back-fault-requires-2 c κs = search needs
-
 returns-6 : tie.Need-returns-6
 unfolding faultAt
 returns-6 c = c .giving-back-fault2 .ensures ∙ rw (c .before .before .before .before .before .before .before .saves .ensures) (sym (rw (ne-eqb _ _ (c .before .before .before .before .before .before .if1 .left), ne-eqb _ _ (c .before .before .before .before .before .if2 .left), ne-eqb _ _ (c .before .before .before .before .if3 .left), ne-eqb _ _ (c .before .before .before .if4 .left), ne-eqb _ _ (c .before .before .if5 .left), eq-eqb _ _ (c .before .if6 .taken)) refl))
-
-body-fault-requires : tie.Need-body-fault-requires
-body-fault-requires c κs = search needs
 
 returns-7 : tie.Need-returns-7
 unfolding faultAt
@@ -69,20 +45,20 @@ pub fault-spec : {M : Type 1} → statement M
 fault-spec =
     tie.close
     (tie.spec
-    saves-requires
-    saving-status-fault-requires
+    (search needs)
+    (search needs)
     returns
-    saving-q-fault-requires
+    (search needs)
     returns-2
-    loading-fault-requires
+    (search needs)
     returns-3
-    loading-fault-requires-2
+    (search needs)
     returns-4
     sub-if5
-    giving-back-fault-requires
+    (search needs)
     returns-5
     sub-if6
-    giving-back-fault-requires-2
+    (search needs)
     returns-6
-    body-fault-requires
+    (search needs)
     returns-7)

@@ -6,24 +6,9 @@ use borrow.Author.Needs.{needs}
 use Rattle.handler.proofs.form.Statement.{statement}
 use Rattle.handler.proofs.form.Tie as tie
 
-words-requires : tie.Need-words-requires
-words-requires c κs = search needs
-
-misformed-requires : tie.Need-misformed-requires
-misformed-requires c κs = search needs
-
 returns : tie.Need-returns
 returns c =
     c .misformed .ensures ∙ form-short (now (c .before .before .before .before .args .h)) _ (c .before .before .words .ensures) (c .before .if1 .taken)
-
-word-at-requires : tie.Need-word-at-requires
-word-at-requires c κs = search needs
-
-word-at-requires-2 : tie.Need-word-at-requires-2
-word-at-requires-2 c κs = search needs
-
-first-misformed-requires : tie.Need-first-misformed-requires
-first-misformed-requires c κs = search needs
 
 returns-2 : tie.Need-returns-2
 returns-2 c =
@@ -35,10 +20,10 @@ pub form-spec : {M : Type 1} → statement M
 form-spec =
     tie.close
     (tie.spec
-    words-requires
-    misformed-requires
+    (search needs)
+    (search needs)
     returns
-    word-at-requires
-    word-at-requires-2
-    first-misformed-requires
+    (search needs)
+    (search needs)
+    (search needs)
     returns-2)

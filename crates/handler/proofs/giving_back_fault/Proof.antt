@@ -4,18 +4,6 @@ use borrow.Author.Needs.{needs}
 use Rattle.handler.proofs.giving_back_fault.Statement.{statement}
 use Rattle.handler.proofs.giving_back_fault.Tie as tie
 
-not-fixed-requires : tie.Need-not-fixed-requires
-not-fixed-requires c κs = search needs
-
-only-requires : tie.Need-only-requires
-only-requires c κs = search needs
-
-destination-requires : tie.Need-destination-requires
-destination-requires c κs = search needs
-
-meet-requires : tie.Need-meet-requires
-meet-requires c κs = search needs
-
 returns : tie.Need-returns
 unfolding givingBackFault
 returns c = rw (c .meet .ensures, c .before .destination .ensures, c .before .before .only .ensures, c .before .before .before .before .not-fixed .ensures)
@@ -24,8 +12,8 @@ pub giving-back-fault-spec : {M : Type 1} → statement M
 giving-back-fault-spec =
     tie.close
     (tie.spec
-    not-fixed-requires
-    only-requires
-    destination-requires
-    meet-requires
+    (search needs)
+    (search needs)
+    (search needs)
+    (search needs)
     returns)

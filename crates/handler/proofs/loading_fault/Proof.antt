@@ -4,15 +4,9 @@ use borrow.Author.Needs.{needs}
 use Rattle.handler.proofs.loading_fault.Statement.{statement}
 use Rattle.handler.proofs.loading_fault.Tie as tie
 
-not-fixed-requires : tie.Need-not-fixed-requires
-not-fixed-requires c κs = search needs
-
-body-fault-requires : tie.Need-body-fault-requires
-body-fault-requires c κs = search needs
-
 returns : tie.Need-returns
 unfolding loadingFault
 returns c = rw (c .body-fault .ensures, c .before .not-fixed .ensures)
 
 pub loading-fault-spec : {M : Type 1} → statement M
-loading-fault-spec = tie.close (tie.spec not-fixed-requires body-fault-requires returns)
+loading-fault-spec = tie.close (tie.spec (search needs) (search needs) returns)

@@ -11,24 +11,6 @@ use borrow.Author.Needs.{needs}
 use Rattle.handler.proofs.overlap.Statement.{statement}
 use Rattle.handler.proofs.overlap.Tie as tie
 
-words-requires : tie.Need-words-requires
-words-requires c κs = search needs
-
-words-requires-2 : tie.Need-words-requires-2
-words-requires-2 c κs = search needs
-
-names-in-requires : tie.Need-names-in-requires
-names-in-requires c κs = search needs
-
-names-in-requires-2 : tie.Need-names-in-requires-2
-names-in-requires-2 c κs = search needs
-
-meet-requires : tie.Need-meet-requires
-meet-requires c κs = search needs
-
-first-sharing-requires : tie.Need-first-sharing-requires
-first-sharing-requires c κs = search needs
-
 returns : tie.Need-returns
 unfolding overlapOf
 returns c =
@@ -50,11 +32,11 @@ pub overlap-spec : {M : Type 1} → statement M
 overlap-spec =
     tie.close
     (tie.spec
-    words-requires
-    words-requires-2
-    names-in-requires
-    names-in-requires-2
-    meet-requires
-    first-sharing-requires
+    (search needs)
+    (search needs)
+    (search needs)
+    (search needs)
+    (search needs)
+    (search needs)
     returns
     returns-2)

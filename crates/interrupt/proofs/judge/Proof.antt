@@ -8,34 +8,16 @@ use borrow.Author.Needs.{needs}
 use Rattle.interrupt.proofs.judge.Statement.{statement}
 use Rattle.interrupt.proofs.judge.Tie as tie
 
-check-on-file-requires : tie.Need-check-on-file-requires
-check-on-file-requires c κs = search needs
-
-enum-known-first : tie.Need-enum-known-first
-enum-known-first c = search needs
-
 returns : tie.Need-returns
 returns c =
     let a = c .before .before .before .before .before .before .before .args in
     judged-main (now (a .main)) (now (a .handler)) (now (a .schedule)) (a .lent) _ _ (sym (c .before .before .before .check-on-file .ensures .0) ∙ c .before .first .given .1)
-
-enum-told : tie.Need-enum-told
-enum-told c = search needs
-
-check-on-file-requires-2 : tie.Need-check-on-file-requires-2
-check-on-file-requires-2 c κs = search needs
-
-enum-known-second : tie.Need-enum-known-second
-enum-known-second c = search needs
 
 returns-2 : tie.Need-returns-2
 returns-2 c =
     let a = c .before .before .before .before .before .before .before .before .before .before .args in
     judged-handler (now (a .main)) (now (a .handler)) (now (a .schedule)) (a .lent) _ _
     (sym (c .before .before .before .before .before .before .check-on-file .ensures .0) ∙ c .before .before .before .before .enum-told .given .1) (sym (c .before .before .before .check-on-file2 .ensures .0) ∙ c .before .second .given .1)
-
-enum-told-2 : tie.Need-enum-told-2
-enum-told-2 c = search needs
 
 judge-pair-requires : tie.Need-judge-pair-requires
 judge-pair-requires c κs =
@@ -55,13 +37,13 @@ pub judge-spec : {M : Type 1} → statement M
 judge-spec =
     tie.close
     (tie.spec
-    check-on-file-requires
-    enum-known-first
+    (search needs)
+    (search needs)
     returns
-    enum-told
-    check-on-file-requires-2
-    enum-known-second
+    (search needs)
+    (search needs)
+    (search needs)
     returns-2
-    enum-told-2
+    (search needs)
     judge-pair-requires
     returns-3)

@@ -7,9 +7,6 @@ use borrow.Author.Needs.{needs}
 use Rattle.machine.proofs.full_width.Statement.{statement}
 use Rattle.machine.proofs.full_width.Tie as tie
 
-returns : tie.Need-returns
-returns c = search needs
-
 itself : (w : ℕ) → (w ≡ 0 → ⊥) → w < 32 → (w ≡ fullWidth w) × (1 ≤ w) × (w ≤ 32)
 itself zero f h = absurd (f refl)
 itself (suc w) f h = (refl, omega arith, omega arith)
@@ -18,4 +15,4 @@ returns-2 : tie.Need-returns-2
 returns-2 c = itself (c .before .args .w) (c .if1 .left) (omega arith)
 
 pub full-width-spec : {M : Type 1} → statement M
-full-width-spec = tie.close (tie.spec returns returns-2)
+full-width-spec = tie.close (tie.spec (λ c. search needs) returns-2)

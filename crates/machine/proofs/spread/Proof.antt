@@ -7,9 +7,6 @@ use borrow.Author.Needs.{needs}
 use Rattle.machine.proofs.spread.Statement.{statement}
 use Rattle.machine.proofs.spread.Tie as tie
 
-mul-halves : tie.Need-mul-halves
-mul-halves c = search needs
-
 mul-pairs : tie.Need-mul-pairs
 mul-pairs c = omega (arith, and-le-r (c .args .x * 0x1001) 0x000f_000f)
 
@@ -20,4 +17,4 @@ returns : tie.Need-returns
 returns c = spread-law (c .args .x) (c .pre)
 
 pub spread-spec : {M : Type 1} → statement M
-spread-spec = tie.close (tie.spec mul-halves mul-pairs mul-result returns)
+spread-spec = tie.close (tie.spec (search needs) mul-pairs mul-result returns)

@@ -4,12 +4,9 @@ use borrow.Author.Needs.{needs}
 use Rattle.movement.proofs.load_q.Statement.{statement}
 use Rattle.movement.proofs.load_q.Tie as tie
 
-result-requires : tie.Need-result-requires
-result-requires c κs = search needs
-
 returns : tie.Need-returns
 unfolding loadQ
 returns c = rw (c .before .result .ensures)
 
 pub load-q-spec : {M : Type 1} → statement M
-load-q-spec = tie.close (tie.spec result-requires returns)
+load-q-spec = tie.close (tie.spec (search needs) returns)

@@ -4,15 +4,9 @@ use borrow.Author.Needs.{needs}
 use Rattle.movement.proofs.load_status.Statement.{statement}
 use Rattle.movement.proofs.load_status.Tie as tie
 
-over-status-requires : tie.Need-over-status-requires
-over-status-requires c κs = search needs
-
-load-requires : tie.Need-load-requires
-load-requires c κs = search needs
-
 returns : tie.Need-returns
 unfolding loadStatus
 returns c = rw (c .load .ensures, c .before .over-status .ensures)
 
 pub load-status-spec : {M : Type 1} → statement M
-load-status-spec = tie.close (tie.spec over-status-requires load-requires returns)
+load-status-spec = tie.close (tie.spec (search needs) (search needs) returns)

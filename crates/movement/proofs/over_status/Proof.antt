@@ -15,18 +15,9 @@ returns c =
     let a = b .args in
     sym (merged-whole (a .s) (asRead (a .x .status)) (b .fits .s .fits) (read-lt (a .x .status) (b .pre .status))) ∙ ap (λ (k : ℕ). merged (selected k) (a .s) (asRead (a .x .status))) (sym (c .if1 .taken))
 
-bits-requires : tie.Need-bits-requires
-bits-requires c κs = search needs
-
-read-requires : tie.Need-read-requires
-read-requires c κs = search needs
-
-merge-requires : tie.Need-merge-requires
-merge-requires c κs = search needs
-
 returns-2 : tie.Need-returns-2
 returns-2 c = rw (c .merge .ensures, c .before .read .ensures, c .before .before .before .bits .ensures .0)
 
 pub over-status-spec : {M : Type 1} → statement M
 over-status-spec =
-    tie.close (tie.spec returns bits-requires read-requires merge-requires returns-2)
+    tie.close (tie.spec returns (search needs) (search needs) (search needs) returns-2)

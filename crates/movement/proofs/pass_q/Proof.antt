@@ -4,15 +4,9 @@ use borrow.Author.Needs.{needs}
 use Rattle.movement.proofs.pass_q.Statement.{statement}
 use Rattle.movement.proofs.pass_q.Tie as tie
 
-bits-requires : tie.Need-bits-requires
-bits-requires c κs = search needs
-
-merge-requires : tie.Need-merge-requires
-merge-requires c κs = search needs
-
 returns : tie.Need-returns
 unfolding PASS-Q
 returns c = rw (c .merge .ensures, c .before .before .bits .ensures .0)
 
 pub pass-q-spec : {M : Type 1} → statement M
-pass-q-spec = tie.close (tie.spec bits-requires merge-requires returns)
+pass-q-spec = tie.close (tie.spec (search needs) (search needs) returns)

@@ -4,18 +4,9 @@ use borrow.Author.Needs.{needs}
 use Rattle.movement.proofs.pass_status.Statement.{statement}
 use Rattle.movement.proofs.pass_status.Tie as tie
 
-bits-requires : tie.Need-bits-requires
-bits-requires c κs = search needs
-
-read-requires : tie.Need-read-requires
-read-requires c κs = search needs
-
-merge-requires : tie.Need-merge-requires
-merge-requires c κs = search needs
-
 returns : tie.Need-returns
 unfolding PASS-STAT
 returns c = rw (c .merge .ensures, c .before .read .ensures, c .before .before .before .bits .ensures .0)
 
 pub pass-status-spec : {M : Type 1} → statement M
-pass-status-spec = tie.close (tie.spec bits-requires read-requires merge-requires returns)
+pass-status-spec = tie.close (tie.spec (search needs) (search needs) (search needs) returns)

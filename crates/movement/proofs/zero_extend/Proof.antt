@@ -4,12 +4,9 @@ use borrow.Author.Needs.{needs}
 use Rattle.movement.proofs.zero_extend.Statement.{statement}
 use Rattle.movement.proofs.zero_extend.Tie as tie
 
-result-requires : tie.Need-result-requires
-result-requires c κs = search needs
-
 returns : tie.Need-returns
 unfolding zeroExtend
 returns c = rw (c .result .ensures)
 
 pub zero-extend-spec : {M : Type 1} → statement M
-zero-extend-spec = tie.close (tie.spec result-requires returns)
+zero-extend-spec = tie.close (tie.spec (search needs) returns)

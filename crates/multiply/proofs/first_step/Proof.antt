@@ -9,14 +9,8 @@ use borrow.Author.Needs.{needs}
 use Rattle.multiply.proofs.first_step.Statement.{statement}
 use Rattle.multiply.proofs.first_step.Tie as tie
 
-bits-requires : tie.Need-bits-requires
-bits-requires c κs = search needs
-
 partial-requires : tie.Need-partial-requires
 partial-requires c κs = (omega arith, c .before .pre .1, omega arith, omega arith)
-
-shifted-by-2-requires : tie.Need-shifted-by-2-requires
-shifted-by-2-requires c κs = search needs
 
 returns : tie.Need-returns
 unfolding firstStep
@@ -26,4 +20,4 @@ returns c =
     rw (c .shifted-by-2 .ensures, c .before .partial .ensures, c .before .before .bits .ensures .0, zero-mod (2 ^ (bitsOf x + 2)), first-is (bitsOf x) (a % 2 ^ (bitsOf x + 2)) (x .q))
 
 pub first-step-spec : {M : Type 1} → statement M
-first-step-spec = tie.close (tie.spec bits-requires partial-requires shifted-by-2-requires returns)
+first-step-spec = tie.close (tie.spec (search needs) partial-requires (search needs) returns)

@@ -10,23 +10,8 @@ use borrow.Author.Needs.{needs}
 use Rattle.multiply.proofs.last.Statement.{statement}
 use Rattle.multiply.proofs.last.Tie as tie
 
-bits-requires : tie.Need-bits-requires
-bits-requires c κs = search needs
-
 mul-add : tie.Need-mul-add
 mul-add c = omega (arith, once (c .before .before .args .x .status .m) (c .before .before .args .x .a) (omega arith))
-
-add-requires : tie.Need-add-requires
-add-requires c κs = search needs
-
-held-requires : tie.Need-held-requires
-held-requires c κs = search needs
-
-is-zero-requires : tie.Need-is-zero-requires
-is-zero-requires c κs = search needs
-
-merge-requires : tie.Need-merge-requires
-merge-requires c κs = search needs
 
 returns : tie.Need-returns
 unfolding UMULLAST
@@ -37,4 +22,4 @@ returns c =
 
 pub last-spec : {M : Type 1} → statement M
 last-spec =
-    tie.close (tie.spec bits-requires mul-add add-requires held-requires is-zero-requires merge-requires returns)
+    tie.close (tie.spec (search needs) mul-add (search needs) (search needs) (search needs) (search needs) returns)

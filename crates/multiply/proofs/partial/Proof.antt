@@ -6,17 +6,8 @@ use borrow.Author.Needs.{needs}
 use Rattle.multiply.proofs.partial.Statement.{statement}
 use Rattle.multiply.proofs.partial.Tie as tie
 
-add-wide : tie.Need-add-wide
-add-wide c = search needs
-
-wide-requires : tie.Need-wide-requires
-wide-requires c κs = search needs
-
 mul-added : tie.Need-mul-added
 mul-added c = rw (c .wide .ensures) (omega (arith, added-le (c .before .args .q) (c .before .args .m) (c .before .args .a) (omega arith)))
-
-wide-requires-2 : tie.Need-wide-requires-2
-wide-requires-2 c κs = search needs
 
 added : (c : tie.After-wide2) → c .before .wide .result * c .before .before .args .a ≤ 2 * c .before .before .args .a
 added c = rw (c .before .wide .ensures) (added-le (c .before .before .args .q) (c .before .before .args .m) (c .before .before .args .a) (omega arith))
@@ -24,17 +15,11 @@ added c = rw (c .before .wide .ensures) (added-le (c .before .before .args .q) (
 taken : (c : tie.After-wide2) → c .wide2 .result * (2 * c .before .before .args .a) ≤ 1 * (2 * c .before .before .args .a)
 taken c = rw (c .wide2 .ensures) (taken-le (c .before .before .args .q) (2 * c .before .before .args .a))
 
-mul-taken : tie.Need-mul-taken
-mul-taken c = search needs
-
 mul-taken-2 : tie.Need-mul-taken-2
 mul-taken-2 c = omega (arith, taken c)
 
 add-result : tie.Need-add-result
 add-result c = omega (arith, added c)
-
-mul-result : tie.Need-mul-result
-mul-result c = search needs
 
 sub-result : tie.Need-sub-result
 sub-result c = omega (arith, taken c)
@@ -52,14 +37,14 @@ pub partial-spec : {M : Type 1} → statement M
 partial-spec =
     tie.close
     (tie.spec
-    add-wide
-    wide-requires
+    (search needs)
+    (search needs)
     mul-added
-    wide-requires-2
-    mul-taken
+    (search needs)
+    (search needs)
     mul-taken-2
     add-result
-    mul-result
+    (search needs)
     sub-result
     add-result-2
     returns)

@@ -10,27 +10,6 @@ use borrow.Author.Needs.{needs}
 use Rattle.multiply.proofs.shifted_by_2.Statement.{statement}
 use Rattle.multiply.proofs.shifted_by_2.Tie as tie
 
-held-requires : tie.Need-held-requires
-held-requires c κs = search needs
-
-bit-requires : tie.Need-bit-requires
-bit-requires c κs = search needs
-
-low-requires : tie.Need-low-requires
-low-requires c κs = search needs
-
-merge-requires : tie.Need-merge-requires
-merge-requires c κs = search needs
-
-low-requires-2 : tie.Need-low-requires-2
-low-requires-2 c κs = search needs
-
-down-by-2-requires : tie.Need-down-by-2-requires
-down-by-2-requires c κs = search needs
-
-merge-requires-2 : tie.Need-merge-requires-2
-merge-requires-2 c κs = search needs
-
 returns : tie.Need-returns
 returns c =
     let x = c .before .before .before .before .before .before .before .args in
@@ -42,11 +21,11 @@ pub shifted-by-2-spec : {M : Type 1} → statement M
 shifted-by-2-spec =
     tie.close
     (tie.spec
-    held-requires
-    bit-requires
-    low-requires
-    merge-requires
-    low-requires-2
-    down-by-2-requires
-    merge-requires-2
+    (search needs)
+    (search needs)
+    (search needs)
+    (search needs)
+    (search needs)
+    (search needs)
+    (search needs)
     returns)

@@ -5,17 +5,8 @@ use borrow.Author.Needs.{needs}
 use Rattle.multiply.proofs.step.Statement.{statement}
 use Rattle.multiply.proofs.step.Tie as tie
 
-bits-requires : tie.Need-bits-requires
-bits-requires c κs = search needs
-
-sign-extended-requires : tie.Need-sign-extended-requires
-sign-extended-requires c κs = search needs
-
 partial-requires : tie.Need-partial-requires
 partial-requires c κs = (omega arith, c .before .before .pre .1, c .sign-extended .ensures .1, omega arith)
-
-shifted-by-2-requires : tie.Need-shifted-by-2-requires
-shifted-by-2-requires c κs = search needs
 
 returns : tie.Need-returns
 unfolding step
@@ -24,4 +15,4 @@ returns c = rw (c .shifted-by-2 .ensures, c .before .partial .ensures, c .before
 pub step-spec : {M : Type 1} → statement M
 step-spec =
     tie.close
-    (tie.spec bits-requires sign-extended-requires partial-requires shifted-by-2-requires returns)
+    (tie.spec (search needs) (search needs) partial-requires (search needs) returns)

@@ -8,12 +8,6 @@ use borrow.Author.Needs.{needs}
 use Rattle.multiply.proofs.zero_extended.Statement.{statement}
 use Rattle.multiply.proofs.zero_extended.Tie as tie
 
-cut-requires : tie.Need-cut-requires
-cut-requires c κs = search needs
-
-wide-requires : tie.Need-wide-requires
-wide-requires c κs = search needs
-
 returns : tie.Need-returns
 returns c =
     let x = c .before .before .args in
@@ -22,4 +16,4 @@ returns c =
     (mod-eq-of-lt l ∙ e, omega (arith, cut-lt (x .n) (x .s), word-le (x .n) (c .before .before .pre .1)))
 
 pub zero-extended-spec : {M : Type 1} → statement M
-zero-extended-spec = tie.close (tie.spec cut-requires wide-requires returns)
+zero-extended-spec = tie.close (tie.spec (search needs) (search needs) returns)

@@ -4,15 +4,9 @@ use Rattle.packing.specs.Registers.{namesOf}
 use Rattle.packing.proofs.names.Statement.{statement}
 use Rattle.packing.proofs.names.Tie as tie
 
-sources-requires : tie.Need-sources-requires
-sources-requires c κs = search needs
-
-destination-requires : tie.Need-destination-requires
-destination-requires c κs = search needs
-
 returns : tie.Need-returns
 unfolding namesOf
 returns c = rw (c .destination .ensures, c .before .sources .ensures)
 
 pub names-spec : {M : Type 1} → statement M
-names-spec = tie.close (tie.spec sources-requires destination-requires returns)
+names-spec = tie.close (tie.spec (search needs) (search needs) returns)

@@ -7,11 +7,8 @@ use borrow.Author.Needs.{needs}
 use Rattle.packing.proofs.only.Statement.{statement}
 use Rattle.packing.proofs.only.Tie as tie
 
-shl-result : tie.Need-shl-result
-shl-result c = search needs
-
 returns : tie.Need-returns
 returns c = ap (λ (x : ℕ). x % 2 ^ 64) (one-mul (2 ^ c .args .r)) ∙ mod-eq-of-lt (pow-lt (c .pre))
 
 pub only-spec : {M : Type 1} → statement M
-only-spec = tie.close (tie.spec shl-result returns)
+only-spec = tie.close (tie.spec (search needs) returns)

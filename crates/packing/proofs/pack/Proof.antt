@@ -12,16 +12,10 @@ use borrow.Author.Needs.{needs}
 use Rattle.packing.proofs.pack.Statement.{statement}
 use Rattle.packing.proofs.pack.Tie as tie
 
-lacks-page-requires : tie.Need-lacks-page-requires
-lacks-page-requires c κs = search needs
-
 returns : tie.Need-returns
 returns c =
     let a = c .before .before .before .args in
     pack-numbers (a .w) (now (a .d)) _ _ (pack-opcode (a .w) (now (a .d)) (sym (c .before .lacks-page .ensures) ∙ c .if1 .taken))
-
-too-large-requires : tie.Need-too-large-requires
-too-large-requires c κs = search needs
 
 returns-2 : tie.Need-returns-2
 returns-2 c =
@@ -41,12 +35,6 @@ packed-number-requires c κs =
     in-range (a .w) (sym (c .before .before .before .before .lacks-page .ensures) ∙ c .before .before .before .if1 .left)
     (sym (c .before .before .too-large .ensures) ∙ c .before .if2 .left)
 
-put-number-requires : tie.Need-put-number-requires
-put-number-requires c κs = search needs
-
-same-length : tie.Need-same-length
-same-length c = search needs
-
 returns-4 : tie.Need-returns-4
 returns-4 c =
     let a = c .before .before .before .before .before .before .before .before .before .before .before .args in
@@ -59,12 +47,12 @@ pub pack-spec : {M : Type 1} → statement M
 pack-spec =
     tie.close
     (tie.spec
-    lacks-page-requires
+    (search needs)
     returns
-    too-large-requires
+    (search needs)
     returns-2
     returns-3
     packed-number-requires
-    put-number-requires
-    same-length
+    (search needs)
+    (search needs)
     returns-4)

@@ -7,9 +7,6 @@ use borrow.Author.Needs.{needs}
 use Rattle.packing.proofs.put.Statement.{statement}
 use Rattle.packing.proofs.put.Tie as tie
 
-slice-write-d : tie.Need-slice-write-d
-slice-write-d c = search needs
-
 slice-write-d-2 : tie.Need-slice-write-d-2
 slice-write-d-2 c = simp length-set (omega arith)
 
@@ -22,12 +19,6 @@ slice-write-d-4 c = simp length-set (omega arith)
 slice-write-d-5 : tie.Need-slice-write-d-5
 slice-write-d-5 c = simp length-set (omega arith)
 
-slice-write-d-6 : tie.Need-slice-write-d-6
-slice-write-d-6 c = search needs
-
-same-length : tie.Need-same-length
-same-length c = search needs
-
 returns : tie.Need-returns
 returns c = let a = c .args in sets-eq (a .b0 ∷ a .b1 ∷ a .b2 ∷ a .b3 ∷ a .b4 ∷ a .b5 ∷ []) (a .d .now) 0 (c .pre)
 
@@ -35,11 +26,11 @@ pub put-spec : {M : Type 1} → statement M
 put-spec =
     tie.close
     (tie.spec
-    slice-write-d
+    (search needs)
     slice-write-d-2
     slice-write-d-3
     slice-write-d-4
     slice-write-d-5
-    slice-write-d-6
-    same-length
+    (λ c. search needs)
+    (search needs)
     returns)

@@ -4,12 +4,9 @@ use borrow.Author.Needs.{needs}
 use Rattle.packing.proofs.refused.Statement.{statement}
 use Rattle.packing.proofs.refused.Tie as tie
 
-fields-requires : tie.Need-fields-requires
-fields-requires c κs = search needs
-
 returns : tie.Need-returns
 unfolding fieldsOf
 returns c = rw (c .fields .ensures)
 
 pub refused-spec : {M : Type 1} → statement M
-refused-spec = tie.close (tie.spec fields-requires returns)
+refused-spec = tie.close (tie.spec (search needs) returns)

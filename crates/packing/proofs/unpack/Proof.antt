@@ -10,32 +10,14 @@ use borrow.Author.Needs.{needs}
 use Rattle.packing.proofs.unpack.Statement.{statement}
 use Rattle.packing.proofs.unpack.Tie as tie
 
-refused-requires : tie.Need-refused-requires
-refused-requires c κs = search needs
-
 returns : tie.Need-returns
 returns c = unpack-numbers _ _ (c .refused .ensures ∙ unpack-room _ (c .before .if1 .taken))
-
-word-number-requires : tie.Need-word-number-requires
-word-number-requires c κs = search needs
-
-refused-requires-2 : tie.Need-refused-requires-2
-refused-requires-2 c κs = search needs
 
 returns-2 : tie.Need-returns-2
 returns-2 c =
     let n = c .before .before .word-number .ensures in
     unpack-numbers _ _ (c .refused2 .ensures
     ∙ unpack-spare _ (c .before .before .before .if1 .left) (λ z. c .before .if2 .taken (ap (λ (x : ℕ). spareOf x) n ∙ z)))
-
-fields-requires : tie.Need-fields-requires
-fields-requires c κs = search needs
-
-lacks-page-requires : tie.Need-lacks-page-requires
-lacks-page-requires c κs = search needs
-
-refused-requires-3 : tie.Need-refused-requires-3
-refused-requires-3 c κs = search needs
 
 returns-3 : tie.Need-returns-3
 returns-3 c =
@@ -59,13 +41,13 @@ pub unpack-spec : {M : Type 1} → statement M
 unpack-spec =
     tie.close
     (tie.spec
-    refused-requires
+    (search needs)
     returns
-    word-number-requires
-    refused-requires-2
+    (search needs)
+    (search needs)
     returns-2
-    fields-requires
-    lacks-page-requires
-    refused-requires-3
+    (search needs)
+    (search needs)
+    (search needs)
     returns-3
     returns-4)

@@ -3,11 +3,8 @@ use borrow.Author.Needs.{needs}
 use Rattle.reasons.proofs.numbered.Statement.{statement}
 use Rattle.reasons.proofs.numbered.Tie as tie
 
-number-requires : tie.Need-number-requires
-number-requires c κs = search needs
-
 returns : tie.Need-returns
 returns c = rw (c .number .ensures)
 
 pub numbered-spec : {M : Type 1} → statement M
-numbered-spec = tie.close (tie.spec number-requires returns)
+numbered-spec = tie.close (tie.spec (search needs) returns)

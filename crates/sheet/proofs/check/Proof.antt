@@ -14,15 +14,6 @@ use Rattle.sheet.proofs.check.Tie as tie
 returns : tie.Need-returns
 returns c = let a = c .before .before .args in check-short (a .beside) (now (a .s)) (a .file) (a .start) (c .if1 .taken)
 
-header-requires : tie.Need-header-requires
-header-requires c κs = search needs
-
-check-header-requires : tie.Need-check-header-requires
-check-header-requires c κs = search needs
-
-enum-known-head : tie.Need-enum-known-head
-enum-known-head c = search needs
-
 returns-2 : tie.Need-returns-2
 returns-2 c =
     let h = c .before .before .before in
@@ -30,23 +21,11 @@ returns-2 c =
     check-head (a .beside) (now (a .s)) (a .file) (a .start) _ _ (h .before .before .if1 .left)
     (seen-head (a .beside) (now (a .s)) (a .file) _ _ (h .before .header .ensures) (h .check-header .ensures) ∙ c .before .head .given .1)
 
-enum-told : tie.Need-enum-told
-enum-told c = search needs
-
-count-requires : tie.Need-count-requires
-count-requires c κs = search needs
-
-registers-requires : tie.Need-registers-requires
-registers-requires c κs = search needs
-
 check-words-requires : tie.Need-check-words-requires
 check-words-requires c κs =
     let h = c .before .before .before .before in
     let a = h .before .before .before .before .args in
     omega (arith, c .before .count .ensures, head-length (a .beside) (length (now (a .s))) (h .before .header .result) (a .file) (sym (h .check-header .ensures) ∙ c .before .before .enum-told .given .1))
-
-enum-known-body : tie.Need-enum-known-body
-enum-known-body c = search needs
 
 returns-3 : tie.Need-returns-3
 returns-3 c =
@@ -57,15 +36,6 @@ returns-3 c =
     (seen-head (a .beside) (now (a .s)) (a .file) _ _ (h .before .header .ensures) (h .check-header .ensures) ∙ b .before .before .before .enum-told .given .1)
     (seen-body (now (a .s)) _ _ _ (h .before .header .ensures) (b .before .before .count .ensures) (b .before .registers .ensures) _ (b .check-words .ensures)
     ∙ c .before .body .given .1)
-
-enum-told-2 : tie.Need-enum-told-2
-enum-told-2 c = search needs
-
-executions-requires : tie.Need-executions-requires
-executions-requires c κs = search needs
-
-check-position-requires : tie.Need-check-position-requires
-check-position-requires c κs = search needs
 
 returns-4 : tie.Need-returns-4
 returns-4 c =
@@ -84,17 +54,17 @@ check-spec =
     tie.close
     (tie.spec
     returns
-    header-requires
-    check-header-requires
-    enum-known-head
+    (search needs)
+    (search needs)
+    (search needs)
     returns-2
-    enum-told
-    count-requires
-    registers-requires
+    (search needs)
+    (search needs)
+    (search needs)
     check-words-requires
-    enum-known-body
+    (search needs)
     returns-3
-    enum-told-2
-    executions-requires
-    check-position-requires
+    (search needs)
+    (search needs)
+    (search needs)
     returns-4)

@@ -8,12 +8,6 @@ use Rattle.sheet.proofs.check_number.Tie as tie
 returns : tie.Need-returns
 returns c = rw (ne-eqb _ _ (c .if1 .taken))
 
-fields-requires : tie.Need-fields-requires
-fields-requires c κs = search needs
-
-lacks-page-requires : tie.Need-lacks-page-requires
-lacks-page-requires c κs = search needs
-
 returns-2 : tie.Need-returns-2
 returns-2 c =
     rw (
@@ -21,9 +15,6 @@ returns-2 c =
       ← c .before .before .fields .ensures,
       sym (c .before .lacks-page .ensures) ∙ c .if2 .taken,
     )
-
-names-from-requires : tie.Need-names-from-requires
-names-from-requires c κs = search needs
 
 returns-3 : tie.Need-returns-3
 returns-3 c =
@@ -48,9 +39,9 @@ check-number-spec =
     tie.close
     (tie.spec
     returns
-    fields-requires
-    lacks-page-requires
+    (search needs)
+    (search needs)
     returns-2
-    names-from-requires
+    (search needs)
     returns-3
     returns-4)

@@ -4,15 +4,6 @@ use borrow.Author.Needs.{needs}
 use Rattle.sheet.proofs.check_position.Statement.{statement}
 use Rattle.sheet.proofs.check_position.Tie as tie
 
-enum-known-start : tie.Need-enum-known-start
-enum-known-start c = search needs
-
-enum-told : tie.Need-enum-told
-enum-told c = search needs
-
-returns : tie.Need-returns
-returns c = search needs
-
 returns-2 : tie.Need-returns-2
 returns-2 c = rw (c .before .before .start .given .1, lt-ltb _ _ (c .if1 .taken))
 
@@ -20,4 +11,4 @@ returns-3 : tie.Need-returns-3
 returns-3 c = rw (c .before .before .start .given .1, le-ltb _ _ (c .if1 .left))
 
 pub check-position-spec : {M : Type 1} → statement M
-check-position-spec = tie.close (tie.spec enum-known-start enum-told returns returns-2 returns-3)
+check-position-spec = tie.close (tie.spec (search needs) (search needs) (λ c. search needs) returns-2 returns-3)

@@ -4,15 +4,9 @@ use borrow.Author.Needs.{needs}
 use Rattle.sheet.proofs.check_word.Statement.{statement}
 use Rattle.sheet.proofs.check_word.Tie as tie
 
-number-at-requires : tie.Need-number-at-requires
-number-at-requires c κs = search needs
-
-check-number-requires : tie.Need-check-number-requires
-check-number-requires c κs = search needs
-
 returns : tie.Need-returns
 unfolding wordRows
 returns c = rw (c .check-number .ensures, c .before .number-at .ensures)
 
 pub check-word-spec : {M : Type 1} → statement M
-check-word-spec = tie.close (tie.spec number-at-requires check-number-requires returns)
+check-word-spec = tie.close (tie.spec (search needs) (search needs) returns)

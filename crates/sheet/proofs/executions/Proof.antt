@@ -6,11 +6,8 @@ use borrow.Author.Needs.{needs}
 use Rattle.sheet.proofs.executions.Statement.{statement}
 use Rattle.sheet.proofs.executions.Tie as tie
 
-words-requires : tie.Need-words-requires
-words-requires c κs = search needs
-
 returns : tie.Need-returns
 returns c = c .words .ensures ∙ sym (executions-length (now (c .before .before .args .s)))
 
 pub executions-spec : {M : Type 1} → statement M
-executions-spec = tie.close (tie.spec words-requires returns)
+executions-spec = tie.close (tie.spec (search needs) returns)

@@ -3,14 +3,8 @@ use borrow.Author.Needs.{needs}
 use Rattle.sheet.proofs.fetch.Statement.{statement}
 use Rattle.sheet.proofs.fetch.Tie as tie
 
-enum-told : tie.Need-enum-told
-enum-told c = search needs
-
 part-requires : tie.Need-part-requires
 part-requires c κs = rw (c .enum-told .given .1) at (c .before .before .before .before .pre)
-
-enum-told-2 : tie.Need-enum-told-2
-enum-told-2 c = search needs
 
 part-requires-2 : tie.Need-part-requires-2
 part-requires-2 c κs = rw (c .enum-told2 .given .1) at (c .before .before .before .before .pre)
@@ -23,4 +17,4 @@ returns-2 c = rw (c .before .enum-told2 .given .1) (c .part2 .ensures)
 
 pub fetch-spec : {M : Type 1} → statement M
 fetch-spec =
-    tie.close (tie.spec enum-told part-requires enum-told-2 part-requires-2 returns returns-2)
+    tie.close (tie.spec (search needs) part-requires (search needs) part-requires-2 returns returns-2)

@@ -3,17 +3,8 @@ use borrow.Author.Needs.{needs}
 use Rattle.sheet.proofs.lends_fewer.Statement.{statement}
 use Rattle.sheet.proofs.lends_fewer.Tie as tie
 
-enum-told : tie.Need-enum-told
-enum-told c = search needs
-
-enum-known-file : tie.Need-enum-known-file
-enum-known-file c = search needs
-
-returns : tie.Need-returns
-returns c = search needs
-
 returns-2 : tie.Need-returns-2
 returns-2 c = rw (c .before .file .given .1)
 
 pub lends-fewer-spec : {M : Type 1} → statement M
-lends-fewer-spec = tie.close (tie.spec enum-told enum-known-file returns returns-2)
+lends-fewer-spec = tie.close (tie.spec (search needs) (search needs) (λ c. search needs) returns-2)

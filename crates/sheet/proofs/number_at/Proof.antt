@@ -8,9 +8,6 @@ use borrow.Author.Needs.{needs}
 use Rattle.sheet.proofs.number_at.Statement.{statement}
 use Rattle.sheet.proofs.number_at.Tie as tie
 
-fetch-requires : tie.Need-fetch-requires
-fetch-requires c κs = search needs
-
 word-number-requires : tie.Need-word-number-requires
 word-number-requires c κs = omega (arith, ap length (c .fetch .ensures) ∙ part-six _ _ (c .before .before .before .pre))
 
@@ -19,4 +16,4 @@ unfolding numberAt
 returns c = rw (c .word-number .ensures, c .before .fetch .ensures)
 
 pub number-at-spec : {M : Type 1} → statement M
-number-at-spec = tie.close (tie.spec fetch-requires word-number-requires returns)
+number-at-spec = tie.close (tie.spec (search needs) word-number-requires returns)

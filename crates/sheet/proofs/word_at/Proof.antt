@@ -7,14 +7,8 @@ use borrow.Author.Needs.{needs}
 use Rattle.sheet.proofs.word_at.Statement.{statement}
 use Rattle.sheet.proofs.word_at.Tie as tie
 
-number-at-requires : tie.Need-number-at-requires
-number-at-requires c κs = search needs
-
-fields-requires : tie.Need-fields-requires
-fields-requires c κs = search needs
-
 returns : tie.Need-returns
 returns c = (c .fields .ensures ∙ ap fieldsOf (c .before .number-at .ensures), subst Narrow (sym (c .fields .ensures)) (narrow _))
 
 pub word-at-spec : {M : Type 1} → statement M
-word-at-spec = tie.close (tie.spec number-at-requires fields-requires returns)
+word-at-spec = tie.close (tie.spec (search needs) (search needs) returns)

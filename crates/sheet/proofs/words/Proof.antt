@@ -4,15 +4,9 @@ use borrow.Author.Needs.{needs}
 use Rattle.sheet.proofs.words.Statement.{statement}
 use Rattle.sheet.proofs.words.Tie as tie
 
-header-requires : tie.Need-header-requires
-header-requires c κs = search needs
-
-count-requires : tie.Need-count-requires
-count-requires c κs = search needs
-
 returns : tie.Need-returns
 unfolding wordsOf
 returns c = rw (c .count .ensures, c .before .header .ensures)
 
 pub words-spec : {M : Type 1} → statement M
-words-spec = tie.close (tie.spec header-requires count-requires returns)
+words-spec = tie.close (tie.spec (search needs) (search needs) returns)

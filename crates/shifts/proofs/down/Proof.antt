@@ -4,21 +4,9 @@ use borrow.Author.Needs.{needs}
 use Rattle.shifts.proofs.down.Statement.{statement}
 use Rattle.shifts.proofs.down.Tie as tie
 
-bits-requires : tie.Need-bits-requires
-bits-requires c κs = search needs
-
-downshifted-requires : tie.Need-downshifted-requires
-downshifted-requires c κs = search needs
-
-result-requires : tie.Need-result-requires
-result-requires c κs = search needs
-
-held-requires : tie.Need-held-requires
-held-requires c κs = search needs
-
 returns : tie.Need-returns
 unfolding down
 returns c = rw (c .held .ensures, c .before .result .ensures, c .before .before .downshifted .ensures, c .before .before .before .bits .ensures .0)
 
 pub down-spec : {M : Type 1} → statement M
-down-spec = tie.close (tie.spec bits-requires downshifted-requires result-requires held-requires returns)
+down-spec = tie.close (tie.spec (search needs) (search needs) (search needs) (search needs) returns)

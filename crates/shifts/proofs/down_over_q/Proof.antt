@@ -4,25 +4,10 @@ use borrow.Author.Needs.{needs}
 use Rattle.shifts.proofs.down_over_q.Statement.{statement}
 use Rattle.shifts.proofs.down_over_q.Tie as tie
 
-bits-requires : tie.Need-bits-requires
-bits-requires c κs = search needs
-
-down-requires : tie.Need-down-requires
-down-requires c κs = search needs
-
-held-requires : tie.Need-held-requires
-held-requires c κs = search needs
-
-downshifted-requires : tie.Need-downshifted-requires
-downshifted-requires c κs = search needs
-
-merge-requires : tie.Need-merge-requires
-merge-requires c κs = search needs
-
 returns : tie.Need-returns
 unfolding down downQ
 returns c = rw (c .merge .ensures, c .before .downshifted .ensures, c .before .before .held .ensures, c .before .before .before .down .ensures, c .before .before .before .before .bits .ensures .0)
 
 pub down-over-q-spec : {M : Type 1} → statement M
 down-over-q-spec =
-    tie.close (tie.spec bits-requires down-requires held-requires downshifted-requires merge-requires returns)
+    tie.close (tie.spec (search needs) (search needs) (search needs) (search needs) (search needs) returns)

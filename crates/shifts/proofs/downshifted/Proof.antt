@@ -6,15 +6,6 @@ use borrow.Author.Needs.{needs}
 use Rattle.shifts.proofs.downshifted.Statement.{statement}
 use Rattle.shifts.proofs.downshifted.Tie as tie
 
-cut-requires : tie.Need-cut-requires
-cut-requires c κs = search needs
-
-sub-up : tie.Need-sub-up
-sub-up c = search needs
-
-up-requires : tie.Need-up-requires
-up-requires c κs = search needs
-
 add-result : tie.Need-add-result
 add-result c = omega (arith, c .up .ensures, top-wrap (c .before .before .args .n) (c .before .before .args .f) (omega arith) (omega arith), top-le (c .before .before .args .n) (c .before .before .args .f) (omega arith) (omega arith))
 
@@ -23,4 +14,4 @@ unfolding downshifted
 returns c = rw (c .up .ensures, c .before .cut .ensures, top-wrap (c .before .before .args .n) (c .before .before .args .f) (omega arith) (omega arith))
 
 pub downshifted-spec : {M : Type 1} → statement M
-downshifted-spec = tie.close (tie.spec cut-requires sub-up up-requires add-result returns)
+downshifted-spec = tie.close (tie.spec (search needs) (search needs) (search needs) add-result returns)

@@ -9,27 +9,6 @@ use borrow.Author.Needs.{needs}
 use Rattle.shifts.proofs.up.Statement.{statement}
 use Rattle.shifts.proofs.up.Tie as tie
 
-bits-requires : tie.Need-bits-requires
-bits-requires c κs = search needs
-
-upshifted-requires : tie.Need-upshifted-requires
-upshifted-requires c κs = search needs
-
-result-requires : tie.Need-result-requires
-result-requires c κs = search needs
-
-sign-requires : tie.Need-sign-requires
-sign-requires c κs = search needs
-
-held-requires : tie.Need-held-requires
-held-requires c κs = search needs
-
-sign-requires-2 : tie.Need-sign-requires-2
-sign-requires-2 c κs = search needs
-
-add-status : tie.Need-add-status
-add-status c = search needs
-
 returns : tie.Need-returns
 unfolding up
 returns c =
@@ -42,10 +21,10 @@ pub up-spec : {M : Type 1} → statement M
 up-spec =
     tie.close
     (tie.spec
-    bits-requires
-    upshifted-requires
-    result-requires
-    sign-requires
-    held-requires sign-requires-2
-    add-status
+    (search needs)
+    (search needs)
+    (search needs)
+    (search needs)
+    (search needs) (search needs)
+    (search needs)
     returns)

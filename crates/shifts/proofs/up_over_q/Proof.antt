@@ -8,21 +8,6 @@ use borrow.Author.Needs.{needs}
 use Rattle.shifts.proofs.up_over_q.Statement.{statement}
 use Rattle.shifts.proofs.up_over_q.Tie as tie
 
-bits-requires : tie.Need-bits-requires
-bits-requires c κs = search needs
-
-sign-requires : tie.Need-sign-requires
-sign-requires c κs = search needs
-
-up-requires : tie.Need-up-requires
-up-requires c κs = search needs
-
-upshifted-requires : tie.Need-upshifted-requires
-upshifted-requires c κs = search needs
-
-merge-requires : tie.Need-merge-requires
-merge-requires c κs = search needs
-
 returns : tie.Need-returns
 unfolding up upQ
 returns c =
@@ -33,4 +18,4 @@ returns c =
 pub up-over-q-spec : {M : Type 1} → statement M
 up-over-q-spec =
     tie.close
-    (tie.spec bits-requires sign-requires up-requires upshifted-requires merge-requires returns)
+    (tie.spec (search needs) (search needs) (search needs) (search needs) (search needs) returns)

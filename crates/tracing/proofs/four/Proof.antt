@@ -5,14 +5,8 @@ use borrow.Author.Needs.{needs}
 use Rattle.tracing.proofs.four.Statement.{statement}
 use Rattle.tracing.proofs.four.Tie as tie
 
-cast-hex4 : tie.Need-cast-hex4
-cast-hex4 c = search needs
-
-hex4-requires : tie.Need-hex4-requires
-hex4-requires c κs = search needs
-
 returns : tie.Need-returns
 returns c = c .hex4 .ensures ∙ four-digits (c .before .args .n)
 
 pub four-spec : {M : Type 1} → statement M
-four-spec = tie.close (tie.spec cast-hex4 hex4-requires returns)
+four-spec = tie.close (tie.spec (search needs) (search needs) returns)

@@ -6,9 +6,6 @@ use borrow.Author.Needs.{needs}
 use Rattle.tracing.proofs.sheet_size.Statement.{statement}
 use Rattle.tracing.proofs.sheet_size.Tie as tie
 
-words-requires : tie.Need-words-requires
-words-requires c κs = search needs
-
 mul-result : tie.Need-mul-result
 mul-result c = omega (arith, c .words .ensures, words-few (now (c .before .before .args .input)))
 
@@ -19,4 +16,4 @@ returns : tie.Need-returns
 returns c = size-is (now (c .before .before .args .input)) _ (c .words .ensures)
 
 pub sheet-size-spec : {M : Type 1} → statement M
-sheet-size-spec = tie.close (tie.spec words-requires mul-result add-result returns)
+sheet-size-spec = tie.close (tie.spec (search needs) mul-result add-result returns)

@@ -8,17 +8,11 @@ use borrow.Author.Needs.{needs}
 use Rattle.arithmetic.proofs.nibbles.nibble_borrows.Statement.{statement}
 use Rattle.arithmetic.proofs.nibbles.nibble_borrows.Tie as tie
 
-cast-binary : tie.Need-cast-binary
-cast-binary c = search needs
-
 sub-result : tie.Need-sub-result
 sub-result c = omega (arith, and-le-r (bitXor (bitXor (c .args .s) (c .args .a)) (notOf (c .args .b)) / 2 ^ 4) 0x1111_1111)
-
-cast-result : tie.Need-cast-result
-cast-result c = search needs
 
 returns : tie.Need-returns
 returns c = rw (c .pre .1) (borrows-read (c .args .a) (c .args .b) (c .args .c) (c .fits .b .fits) (c .pre .0))
 
 pub nibble-borrows-spec : {M : Type 1} → statement M
-nibble-borrows-spec = tie.close (tie.spec cast-binary sub-result cast-result returns)
+nibble-borrows-spec = tie.close (tie.spec (search needs) sub-result (search needs) returns)

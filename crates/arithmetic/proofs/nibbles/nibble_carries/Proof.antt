@@ -15,9 +15,6 @@ use Rattle.arithmetic.proofs.nibbles.nibble_carries.Tie as tie
 add-low : tie.Need-add-low
 add-low c = omega (arith, and-le-l (c .args .s) ((2 ^ 64 - 1) - bitAnd (bitXor (bitXor (c .args .s) (c .args .a)) (c .args .b) / 2 ^ 1) 0x8888_8888))
 
-low-requires : tie.Need-low-requires
-low-requires c κs = search needs
-
 returns : tie.Need-returns
 returns c =
     let x = c .before .args in
@@ -26,4 +23,4 @@ returns c =
     c .low .ensures ∙ rw (p .1) (ap (λ (y : ℕ). y % 2 ^ 32) (carries-read (x .a) (x .b) (x .c) (c .before .fits .a .fits) (c .before .fits .b .fits) (p .0)) ∙ mod-eq-of-lt l)
 
 pub nibble-carries-spec : {M : Type 1} → statement M
-nibble-carries-spec = tie.close (tie.spec add-low low-requires returns)
+nibble-carries-spec = tie.close (tie.spec add-low (search needs) returns)

@@ -5,18 +5,6 @@ use borrow.Author.Needs.{needs}
 use Rattle.divide.proofs.steps.form.Statement.{statement}
 use Rattle.divide.proofs.steps.form.Tie as tie
 
-operand-requires : tie.Need-operand-requires
-operand-requires c κs = search needs
-
-sum-requires : tie.Need-sum-requires
-sum-requires c κs = search needs
-
-add-requires : tie.Need-add-requires
-add-requires c κs = search needs
-
-carry-requires : tie.Need-carry-requires
-carry-requires c κs = search needs
-
 returns : tie.Need-returns
 returns c = (
   c .before .add .ensures ∙ rw (c .before .before .before .operand .ensures),
@@ -25,4 +13,4 @@ returns c = (
 )
 
 pub form-spec : {M : Type 1} → statement M
-form-spec = tie.close (tie.spec operand-requires sum-requires add-requires carry-requires returns)
+form-spec = tie.close (tie.spec (search needs) (search needs) (search needs) (search needs) returns)

@@ -5,15 +5,9 @@ use borrow.Author.Needs.{needs}
 use Rattle.divide.proofs.steps.put_q.Statement.{statement}
 use Rattle.divide.proofs.steps.put_q.Tie as tie
 
-mul-result : tie.Need-mul-result
-mul-result c = search needs
-
-add-result : tie.Need-add-result
-add-result c = search needs
-
 returns : tie.Need-returns
 unfolding putBit
 returns c = omega arith
 
 pub put-q-spec : {M : Type 1} → statement M
-put-q-spec = tie.close (tie.spec mul-result add-result returns)
+put-q-spec = tie.close (tie.spec (search needs) (search needs) returns)

@@ -8,12 +8,6 @@ use borrow.Author.Needs.{needs}
 use Rattle.divide.proofs.steps.remainder_test.Statement.{statement}
 use Rattle.divide.proofs.steps.remainder_test.Tie as tie
 
-printed-test-requires : tie.Need-printed-test-requires
-printed-test-requires c κs = search needs
-
-add-if1 : tie.Need-add-if1
-add-if1 c = search needs
-
 returns : tie.Need-returns
 returns c =
     let x : Inputs = c .before .before .before .args .x in
@@ -27,4 +21,4 @@ returns-2 c =
     c .before .before .printed-test .ensures ∙ sym (choose-one _ _ _ h)
 
 pub remainder-test-spec : {M : Type 1} → statement M
-remainder-test-spec = tie.close (tie.spec printed-test-requires add-if1 returns returns-2)
+remainder-test-spec = tie.close (tie.spec (search needs) (search needs) returns returns-2)

@@ -5,14 +5,8 @@ use borrow.Author.Needs.{needs}
 use Rattle.divide.proofs.steps.sign_q.Statement.{statement}
 use Rattle.divide.proofs.steps.sign_q.Tie as tie
 
-bits-requires : tie.Need-bits-requires
-bits-requires c κs = search needs
-
-sign-requires : tie.Need-sign-requires
-sign-requires c κs = search needs
-
 returns : tie.Need-returns
 returns c = (c .sign .ensures ∙ rw (c .before .bits .ensures .0), rw (c .sign .ensures) (bit-lt _ _))
 
 pub sign-q-spec : {M : Type 1} → statement M
-sign-q-spec = tie.close (tie.spec bits-requires sign-requires returns)
+sign-q-spec = tie.close (tie.spec (search needs) (search needs) returns)

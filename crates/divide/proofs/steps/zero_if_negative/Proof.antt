@@ -5,12 +5,6 @@ use borrow.Author.Needs.{needs}
 use Rattle.divide.proofs.steps.zero_if_negative.Statement.{statement}
 use Rattle.divide.proofs.steps.zero_if_negative.Tie as tie
 
-bits-requires : tie.Need-bits-requires
-bits-requires c κs = search needs
-
-is-zero-requires : tie.Need-is-zero-requires
-is-zero-requires c κs = search needs
-
 returns : tie.Need-returns
 returns c = sym (choose-zero _ _ _ (c .if1 .taken))
 
@@ -18,4 +12,4 @@ returns-2 : tie.Need-returns-2
 returns-2 c = c .is-zero .ensures ∙ rw (c .before .before .before .bits .ensures .0) (sym (choose-one _ _ _ (c .before .if1 .left)))
 
 pub zero-if-negative-spec : {M : Type 1} → statement M
-zero-if-negative-spec = tie.close (tie.spec bits-requires is-zero-requires returns returns-2)
+zero-if-negative-spec = tie.close (tie.spec (search needs) (search needs) returns returns-2)

@@ -4,18 +4,9 @@ use borrow.Author.Needs.{needs}
 use Rattle.fields.proofs.bit.extract.Statement.{statement}
 use Rattle.fields.proofs.bit.extract.Tie as tie
 
-extracted-requires : tie.Need-extracted-requires
-extracted-requires c κs = search needs
-
-held-requires : tie.Need-held-requires
-held-requires c κs = search needs
-
-is-zero-requires : tie.Need-is-zero-requires
-is-zero-requires c κs = search needs
-
 returns : tie.Need-returns
 unfolding extractBit
 returns c = rw (c .is-zero .ensures, c .before .held .ensures, c .before .before .extracted .ensures)
 
 pub extract-spec : {M : Type 1} → statement M
-extract-spec = tie.close (tie.spec extracted-requires held-requires is-zero-requires returns)
+extract-spec = tie.close (tie.spec (search needs) (search needs) (search needs) returns)

@@ -4,9 +4,6 @@ use borrow.Author.Needs.{needs}
 use Rattle.fields.proofs.bit.put_status.Statement.{statement}
 use Rattle.fields.proofs.bit.put_status.Tie as tie
 
-load-requires : tie.Need-load-requires
-load-requires c κs = search needs
-
 read-requires : tie.Need-read-requires
 read-requires c κs = rw (c .load .ensures) (loaded-good (c .before .args .word))
 
@@ -14,4 +11,4 @@ returns : tie.Need-returns
 returns c = rw (c .read .ensures, c .before .load .ensures)
 
 pub put-status-spec : {M : Type 1} → statement M
-put-status-spec = tie.close (tie.spec load-requires read-requires returns)
+put-status-spec = tie.close (tie.spec (search needs) read-requires returns)

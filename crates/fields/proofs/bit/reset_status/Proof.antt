@@ -4,18 +4,6 @@ use borrow.Author.Needs.{needs}
 use Rattle.fields.proofs.bit.reset_status.Statement.{statement}
 use Rattle.fields.proofs.bit.reset_status.Tie as tie
 
-place-requires : tie.Need-place-requires
-place-requires c κs = search needs
-
-read-requires : tie.Need-read-requires
-read-requires c κs = search needs
-
-clear-bit-requires : tie.Need-clear-bit-requires
-clear-bit-requires c κs = search needs
-
-put-status-requires : tie.Need-put-status-requires
-put-status-requires c κs = search needs
-
 returns : tie.Need-returns
 unfolding putStatus
 returns c = rw (c .put-status .ensures, c .before .clear-bit .ensures, c .before .before .read .ensures, c .before .before .before .place .ensures .0)
@@ -23,4 +11,4 @@ returns c = rw (c .put-status .ensures, c .before .clear-bit .ensures, c .before
 pub reset-status-spec : {M : Type 1} → statement M
 reset-status-spec =
     tie.close
-    (tie.spec place-requires read-requires clear-bit-requires put-status-requires returns)
+    (tie.spec (search needs) (search needs) (search needs) (search needs) returns)

@@ -4,22 +4,10 @@ use borrow.Author.Needs.{needs}
 use Rattle.fields.proofs.bit.set_status.Statement.{statement}
 use Rattle.fields.proofs.bit.set_status.Tie as tie
 
-place-requires : tie.Need-place-requires
-place-requires c κs = search needs
-
-read-requires : tie.Need-read-requires
-read-requires c κs = search needs
-
-set-bit-requires : tie.Need-set-bit-requires
-set-bit-requires c κs = search needs
-
-put-status-requires : tie.Need-put-status-requires
-put-status-requires c κs = search needs
-
 returns : tie.Need-returns
 unfolding putStatus
 returns c = rw (c .put-status .ensures, c .before .set-bit .ensures, c .before .before .read .ensures, c .before .before .before .place .ensures .0)
 
 pub set-status-spec : {M : Type 1} → statement M
 set-status-spec =
-    tie.close (tie.spec place-requires read-requires set-bit-requires put-status-requires returns)
+    tie.close (tie.spec (search needs) (search needs) (search needs) (search needs) returns)

@@ -3,14 +3,8 @@ use borrow.Author.Needs.{needs}
 use Rattle.fields.proofs.logical.aligned.Statement.{statement}
 use Rattle.fields.proofs.logical.aligned.Tie as tie
 
-aligned-field-requires : tie.Need-aligned-field-requires
-aligned-field-requires c κs = search needs
-
-in-field-requires : tie.Need-in-field-requires
-in-field-requires c κs = search needs
-
 returns : tie.Need-returns
 returns c = rw (c .in-field .ensures, c .before .aligned-field .ensures)
 
 pub aligned-spec : {M : Type 1} → statement M
-aligned-spec = tie.close (tie.spec aligned-field-requires in-field-requires returns)
+aligned-spec = tie.close (tie.spec (search needs) (search needs) returns)

@@ -3,17 +3,8 @@ use borrow.Author.Needs.{needs}
 use Rattle.fields.proofs.logical.aligned_field.Statement.{statement}
 use Rattle.fields.proofs.logical.aligned_field.Tie as tie
 
-place-requires : tie.Need-place-requires
-place-requires c κs = search needs
-
-width-requires : tie.Need-width-requires
-width-requires c κs = search needs
-
-field-mask-requires : tie.Need-field-mask-requires
-field-mask-requires c κs = search needs
-
 returns : tie.Need-returns
 returns c = rw (c .field-mask .ensures, c .before .width .ensures .0, c .before .before .place .ensures .0)
 
 pub aligned-field-spec : {M : Type 1} → statement M
-aligned-field-spec = tie.close (tie.spec place-requires width-requires field-mask-requires returns)
+aligned-field-spec = tie.close (tie.spec (search needs) (search needs) (search needs) returns)

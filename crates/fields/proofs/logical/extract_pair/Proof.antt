@@ -10,24 +10,6 @@ use borrow.Author.Needs.{needs}
 use Rattle.fields.proofs.logical.extract_pair.Statement.{statement}
 use Rattle.fields.proofs.logical.extract_pair.Tie as tie
 
-position-requires : tie.Need-position-requires
-position-requires c κs = search needs
-
-rotate-pair-requires : tie.Need-rotate-pair-requires
-rotate-pair-requires c κs = search needs
-
-cast-word : tie.Need-cast-word
-cast-word c = search needs
-
-width-requires : tie.Need-width-requires
-width-requires c κs = search needs
-
-cut-requires : tie.Need-cut-requires
-cut-requires c κs = search needs
-
-leave-whole-requires : tie.Need-leave-whole-requires
-leave-whole-requires c κs = search needs
-
 returns : tie.Need-returns
 unfolding extractPair
 returns c =
@@ -45,10 +27,10 @@ pub extract-pair-spec : {M : Type 1} → statement M
 extract-pair-spec =
     tie.close
     (tie.spec
-    position-requires
-    rotate-pair-requires
-    cast-word
-    width-requires
-    cut-requires
-    leave-whole-requires
+    (search needs)
+    (search needs)
+    (search needs)
+    (search needs)
+    (search needs)
+    (search needs)
     returns)

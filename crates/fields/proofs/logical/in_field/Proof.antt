@@ -4,18 +4,9 @@ use borrow.Author.Needs.{needs}
 use Rattle.fields.proofs.logical.in_field.Statement.{statement}
 use Rattle.fields.proofs.logical.in_field.Tie as tie
 
-masked-requires : tie.Need-masked-requires
-masked-requires c κs = search needs
-
-is-zero-requires : tie.Need-is-zero-requires
-is-zero-requires c κs = search needs
-
-leave-requires : tie.Need-leave-requires
-leave-requires c κs = search needs
-
 returns : tie.Need-returns
 unfolding inField
 returns c = rw (c .leave .ensures, c .before .is-zero .ensures, c .before .before .masked .ensures)
 
 pub in-field-spec : {M : Type 1} → statement M
-in-field-spec = tie.close (tie.spec masked-requires is-zero-requires leave-requires returns)
+in-field-spec = tie.close (tie.spec (search needs) (search needs) (search needs) returns)

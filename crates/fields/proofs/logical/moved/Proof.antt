@@ -8,20 +8,11 @@ use borrow.Author.Needs.{needs}
 use Rattle.fields.proofs.logical.moved.Statement.{statement}
 use Rattle.fields.proofs.logical.moved.Tie as tie
 
-position-requires : tie.Need-position-requires
-position-requires c κs = search needs
-
-up-requires : tie.Need-up-requires
-up-requires c κs = search needs
-
 returns : tie.Need-returns
 returns c =
     let a = c .before .before .before .args in
     c .up .ensures
     ∙ displaced-up (a .x) (c .before .before .position .result) (c .before .before .position .ensures .0) (λ (k : ℕ). upBy k (a .s)) (λ (k : ℕ). rotatedDown k (a .s)) (c .before .if1 .taken)
-
-rotate-requires : tie.Need-rotate-requires
-rotate-requires c κs = search needs
 
 returns-2 : tie.Need-returns-2
 returns-2 c =
@@ -33,4 +24,4 @@ returns-2 c =
     ∙ displaced-down (a .x) p (c .before .before .position .ensures .0) (λ (k : ℕ). upBy k (a .s)) (λ (k : ℕ). rotatedDown k (a .s)) (c .before .if1 .left)
 
 pub moved-spec : {M : Type 1} → statement M
-moved-spec = tie.close (tie.spec position-requires up-requires returns rotate-requires returns-2)
+moved-spec = tie.close (tie.spec (search needs) (search needs) returns (search needs) returns-2)

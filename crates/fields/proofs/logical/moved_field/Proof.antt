@@ -8,15 +8,6 @@ use borrow.Author.Needs.{needs}
 use Rattle.fields.proofs.logical.moved_field.Statement.{statement}
 use Rattle.fields.proofs.logical.moved_field.Tie as tie
 
-position-requires : tie.Need-position-requires
-position-requires c κs = search needs
-
-width-requires : tie.Need-width-requires
-width-requires c κs = search needs
-
-field-mask-requires : tie.Need-field-mask-requires
-field-mask-requires c κs = search needs
-
 returns : tie.Need-returns
 returns c =
     let x = c .before .before .before .before .args .x in
@@ -24,12 +15,6 @@ returns c =
     c .field-mask .ensures
     ∙ ap (fieldMask p) (c .before .width .ensures .0)
     ∙ displaced-up x p (c .before .before .before .position .ensures .0) (λ (k : ℕ). fieldMask k (widthOf x)) (λ (k : ℕ). fieldMask 0 (widthOf x)) (c .before .before .if1 .taken)
-
-width-requires-2 : tie.Need-width-requires-2
-width-requires-2 c κs = search needs
-
-field-mask-requires-2 : tie.Need-field-mask-requires-2
-field-mask-requires-2 c κs = search needs
 
 returns-2 : tie.Need-returns-2
 returns-2 c =
@@ -43,10 +28,10 @@ pub moved-field-spec : {M : Type 1} → statement M
 moved-field-spec =
     tie.close
     (tie.spec
-    position-requires
-    width-requires
-    field-mask-requires
+    (search needs)
+    (search needs)
+    (search needs)
     returns
-    width-requires-2
-    field-mask-requires-2
+    (search needs)
+    (search needs)
     returns-2)

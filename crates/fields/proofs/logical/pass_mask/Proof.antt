@@ -6,12 +6,6 @@ use borrow.Author.Needs.{needs}
 use Rattle.fields.proofs.logical.pass_mask.Statement.{statement}
 use Rattle.fields.proofs.logical.pass_mask.Tie as tie
 
-aligned-field-requires : tie.Need-aligned-field-requires
-aligned-field-requires c κs = search needs
-
-position-requires : tie.Need-position-requires
-position-requires c κs = search needs
-
 returns : tie.Need-returns
 unfolding PASS-MASK
 returns c = rw (c .before .before .before .aligned-field .ensures, choose-zero _ _ _ (sixth-zero (c .before .before .before .before .args .x) (c .before .position .result) (c .before .position .ensures .0) (c .if1 .taken)))
@@ -21,4 +15,4 @@ unfolding PASS-MASK
 returns-2 c = rw (c .before .before .before .aligned-field .ensures, choose-one _ _ _ (sixth-one (c .before .before .before .before .args .x) (c .before .position .result) (c .before .position .ensures .0) (c .if1 .left)))
 
 pub pass-mask-spec : {M : Type 1} → statement M
-pass-mask-spec = tie.close (tie.spec aligned-field-requires position-requires returns returns-2)
+pass-mask-spec = tie.close (tie.spec (search needs) (search needs) returns returns-2)

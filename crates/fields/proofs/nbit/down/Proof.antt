@@ -5,21 +5,6 @@ use borrow.Author.Needs.{needs}
 use Rattle.fields.proofs.nbit.down.Statement.{statement}
 use Rattle.fields.proofs.nbit.down.Tie as tie
 
-spread-requires : tie.Need-spread-requires
-spread-requires c κs = search needs
-
-sub-result : tie.Need-sub-result
-sub-result c = search needs
-
-shr-result : tie.Need-shr-result
-shr-result c = search needs
-
-sub-result-2 : tie.Need-sub-result-2
-sub-result-2 c = search needs
-
-shr-result-2 : tie.Need-shr-result-2
-shr-result-2 c = search needs
-
 sub-result-3 : tie.Need-sub-result-3
 sub-result-3 c = fill-le (c .before .args .k) (c .spread .result)
 
@@ -38,11 +23,11 @@ pub down-spec : {M : Type 1} → statement M
 down-spec =
     tie.close
     (tie.spec
-    spread-requires
-    sub-result
-    shr-result
-    sub-result-2
-    shr-result-2
+    (search needs)
+    (search needs)
+    (search needs)
+    (search needs)
+    (search needs)
     sub-result-3
     add-result
     returns)

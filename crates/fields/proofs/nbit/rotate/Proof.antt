@@ -4,18 +4,9 @@ use borrow.Author.Needs.{needs}
 use Rattle.fields.proofs.nbit.rotate.Statement.{statement}
 use Rattle.fields.proofs.nbit.rotate.Tie as tie
 
-place-requires : tie.Need-place-requires
-place-requires c κs = search needs
-
-rotate-requires : tie.Need-rotate-requires
-rotate-requires c κs = search needs
-
-leave-whole-requires : tie.Need-leave-whole-requires
-leave-whole-requires c κs = search needs
-
 returns : tie.Need-returns
 unfolding rotate
 returns c = rw (c .leave-whole .ensures, c .before .rotate .ensures, c .before .before .place .ensures .0)
 
 pub rotate-spec : {M : Type 1} → statement M
-rotate-spec = tie.close (tie.spec place-requires rotate-requires leave-whole-requires returns)
+rotate-spec = tie.close (tie.spec (search needs) (search needs) (search needs) returns)

@@ -9,30 +9,12 @@ use borrow.Author.Needs.{needs}
 use Rattle.fields.proofs.nbit.shift.Statement.{statement}
 use Rattle.fields.proofs.nbit.shift.Tie as tie
 
-position-requires : tie.Need-position-requires
-position-requires c κs = search needs
-
-up-requires : tie.Need-up-requires
-up-requires c κs = search needs
-
-leave-whole-requires : tie.Need-leave-whole-requires
-leave-whole-requires c κs = search needs
-
 returns : tie.Need-returns
 unfolding shift
 returns c =
     let a = c .before .before .before .before .args in
     c .leave-whole .ensures
     ∙ ap (wholeResult (a .x)) (c .before .up .ensures ∙ displaced-up (a .x) (c .before .before .before .position .result) (c .before .before .before .position .ensures .0) (λ (k : ℕ). upBy k (a .s)) (λ (k : ℕ). downBy k (a .s) (a .f)) (c .before .before .if1 .taken))
-
-sub-down : tie.Need-sub-down
-sub-down c = search needs
-
-down-requires : tie.Need-down-requires
-down-requires c κs = search needs
-
-leave-whole-requires-2 : tie.Need-leave-whole-requires-2
-leave-whole-requires-2 c κs = search needs
 
 returns-2 : tie.Need-returns-2
 unfolding shift
@@ -45,11 +27,11 @@ pub shift-spec : {M : Type 1} → statement M
 shift-spec =
     tie.close
     (tie.spec
-    position-requires
-    up-requires
-    leave-whole-requires
+    (search needs)
+    (search needs)
+    (search needs)
     returns
-    sub-down
-    down-requires
-    leave-whole-requires-2
+    (search needs)
+    (search needs)
+    (search needs)
     returns-2)

@@ -3,14 +3,8 @@ use borrow.Author.Needs.{needs}
 use Rattle.fields.proofs.position.leave_whole.Statement.{statement}
 use Rattle.fields.proofs.position.leave_whole.Tie as tie
 
-is-zero-requires : tie.Need-is-zero-requires
-is-zero-requires c κs = search needs
-
-leave-requires : tie.Need-leave-requires
-leave-requires c κs = search needs
-
 returns : tie.Need-returns
 returns c = rw (c .leave .ensures, c .before .is-zero .ensures)
 
 pub leave-whole-spec : {M : Type 1} → statement M
-leave-whole-spec = tie.close (tie.spec is-zero-requires leave-requires returns)
+leave-whole-spec = tie.close (tie.spec (search needs) (search needs) returns)

@@ -3,11 +3,8 @@ use borrow.Author.Needs.{needs}
 use Rattle.machine.proofs.Core.leave.Statement.{statement}
 use Rattle.machine.proofs.Core.leave.Tie as tie
 
-read-requires : tie.Need-read-requires
-read-requires c κs = search needs
-
 returns : tie.Need-returns
 returns c = rw (c .read .ensures)
 
 pub leave-spec : {M : Type 1} → statement M
-leave-spec = tie.close (tie.spec read-requires returns)
+leave-spec = tie.close (tie.spec (search needs) returns)

@@ -8,16 +8,10 @@ use borrow.Author.Needs.{needs}
 use Rattle.machine.proofs.Inputs.width.Statement.{statement}
 use Rattle.machine.proofs.Inputs.width.Tie as tie
 
-full-width-requires : tie.Need-full-width-requires
-full-width-requires c κs = search needs
-
 returns : tie.Need-returns
 returns c =
     let low : c .before .before .before .args .self .code % 2 ≡ 0 = c .before .if1 .taken in
     (c .full-width .ensures .0 ∙ ap fullWidth (sym (choose-zero _ _ _ low)), omega arith, omega arith)
-
-full-width-requires-2 : tie.Need-full-width-requires-2
-full-width-requires-2 c κs = search needs
 
 returns-2 : tie.Need-returns-2
 returns-2 c =
@@ -25,4 +19,4 @@ returns-2 c =
     (c .full-width2 .ensures .0 ∙ ap fullWidth (sym (choose-one _ _ _ high)), omega arith, omega arith)
 
 pub width-spec : {M : Type 1} → statement M
-width-spec = tie.close (tie.spec full-width-requires returns full-width-requires-2 returns-2)
+width-spec = tie.close (tie.spec (search needs) returns (search needs) returns-2)

@@ -3,11 +3,8 @@ use borrow.Author.Needs.{needs}
 use Rattle.machine.proofs.Machine.enter.Statement.{statement}
 use Rattle.machine.proofs.Machine.enter.Tie as tie
 
-load-requires : tie.Need-load-requires
-load-requires c κs = search needs
-
 returns : tie.Need-returns
 returns c = rw (c .load .ensures)
 
 pub enter-spec : {M : Type 1} → statement M
-enter-spec = tie.close (tie.spec load-requires returns)
+enter-spec = tie.close (tie.spec (search needs) returns)

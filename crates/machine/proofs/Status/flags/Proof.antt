@@ -9,18 +9,6 @@ use borrow.Author.Needs.{needs}
 use Rattle.machine.proofs.Status.flags.Statement.{statement}
 use Rattle.machine.proofs.Status.flags.Tie as tie
 
-mul-result : tie.Need-mul-result
-mul-result c = search needs
-
-mul-result-2 : tie.Need-mul-result-2
-mul-result-2 c = search needs
-
-mul-result-3 : tie.Need-mul-result-3
-mul-result-3 c = search needs
-
-mul-result-4 : tie.Need-mul-result-4
-mul-result-4 c = search needs
-
 abbrev made : ℕ → ℕ → ℕ → ℕ → ℕ
 made n v c z = bitOr (bitOr (bitXor (n * 0x2_c000) (v * 0x4_c000)) (c * 0x1_2000)) (z * 0x8_a000)
 
@@ -47,4 +35,4 @@ returns c =
     right (s .n) (s .v) (s .c) (g .n) (g .v) (g .c) (s .z) (g .z)
 
 pub flags-spec : {M : Type 1} → statement M
-flags-spec = tie.close (tie.spec mul-result mul-result-2 mul-result-3 mul-result-4 returns)
+flags-spec = tie.close (tie.spec (search needs) (search needs) (search needs) (search needs) returns)

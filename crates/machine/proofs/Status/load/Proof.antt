@@ -4,12 +4,9 @@ use borrow.Author.Needs.{needs}
 use Rattle.machine.proofs.Status.load.Statement.{statement}
 use Rattle.machine.proofs.Status.load.Tie as tie
 
-spread-requires : tie.Need-spread-requires
-spread-requires c κs = search needs
-
 returns : tie.Need-returns
 unfolding loaded
 returns c = rw (c .spread .ensures)
 
 pub load-spec : {M : Type 1} → statement M
-load-spec = tie.close (tie.spec spread-requires returns)
+load-spec = tie.close (tie.spec (search needs) returns)
