@@ -17,7 +17,7 @@ use Rattle.handler.specs.Form.{handlerOf}
 use Rattle.run.specs.Run.{runOf}
 use Rattle.run.specs.Step.{oneWordOf}
 use Rattle.interrupt.specs.Interrupt.{interruptedOf}
-use Rattle.am29332.specs.Numbers.{Leaves, leaves, singleNumbers, packNumbers, unpackNumbers, headingNumbers, ranNumbers, stepNumbers, interruptedNumbers}
+use Rattle.am29332.specs.Numbers.{Leaves, leaves, singleNumbers, packNumbers, unpackNumbers, headingNumbers, runNumbers, stepNumbers, interruptedNumbers}
 use Rattle.am29332.specs.Version.{libraryVersion}
 
 -- where nothing is lent to be changed
@@ -58,8 +58,8 @@ one-outcome {A} d a b l m e f = (ap (λ (x : Leaves A). x .answer) (e ∙ sym f)
 pub one-pack : (w : Word) (bytes : List ℕ) → OneOutcome (packNumbers (packOf w bytes))
 one-pack w bytes = one-outcome (packNumbers (packOf w bytes))
 
-pub one-run : (sheet file : List ℕ) (m : Machine) (start allowance : ℕ) → OneOutcome (ranNumbers (runOf sheet file m start allowance))
-one-run sheet file m start allowance = one-outcome (ranNumbers (runOf sheet file m start allowance))
+pub one-run : (sheet file : List ℕ) (m : Machine) (start allowance : ℕ) → OneOutcome (runNumbers (runOf sheet file m start allowance))
+one-run sheet file m start allowance = one-outcome (runNumbers (runOf sheet file m start allowance))
 
 pub one-step : (sheet file : List ℕ) (m : Machine) (start : ℕ) → OneOutcome (stepNumbers (oneWordOf sheet file m start))
 one-step sheet file m start = one-outcome (stepNumbers (oneWordOf sheet file m start))

@@ -42,8 +42,8 @@ abbrev pub packNumbers : Packed → Leaves Outcome
 packNumbers p = leaves (checkNumbers (p .check)) (p .bytes)
 
 -- a run: Q and status, and the file of registers
-abbrev pub ranNumbers : Ended → Leaves Ran
-ranNumbers e = leaves (record { outcome = outcomeOf (e .answer .reason) (e .answer .place); machine = e .answer .machine }) (e .file)
+abbrev pub runNumbers : Ended → Leaves Ran
+runNumbers e = leaves (record { outcome = outcomeOf (e .answer .reason) (e .answer .place); machine = e .answer .machine }) (e .file)
 
 -- one word of a sheet: Y and parity besides
 abbrev pub stepNumbers : Halted → Leaves Stepped

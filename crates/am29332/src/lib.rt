@@ -18,7 +18,7 @@ ghost use Rattle.run.specs.Run.{runOf, inParts};
 ghost use Rattle.run.specs.Step.{oneWordOf};
 ghost use Rattle.interrupt.specs.Interrupt.{interruptedOf};
 ghost use Rattle.interrupt.specs.Demand3.{NoTrace};
-ghost use Rattle.am29332.specs.Numbers.{singleNumbers, packNumbers, unpackNumbers, headingNumbers, ranNumbers, stepNumbers, interruptedNumbers, leaves};
+ghost use Rattle.am29332.specs.Numbers.{singleNumbers, packNumbers, unpackNumbers, headingNumbers, runNumbers, stepNumbers, interruptedNumbers, leaves};
 ghost use Rattle.am29332.specs.Version.{libraryVersion};
 
 // What a single word answers. The parity has a bit for each byte of Y, the highest byte's in bit 3.
@@ -165,9 +165,9 @@ pub extern "C" fn am29332_run(
     start: u64,
     allowance: u64,
 ) -> Ran
-    ensures { λ r. ⌜ leaves r (now (file .exit)) ≡ ranNumbers (runOf (now (sheet .entry)) (now (file .entry)) machine start allowance) ⌝ }
+    ensures { λ r. ⌜ leaves r (now (file .exit)) ≡ runNumbers (runOf (now (sheet .entry)) (now (file .entry)) machine start allowance) ⌝ }
     ensures in_parts { λ r. ⌜ (r .outcome .reason ≡ 0 → (a b : ℕ) → a + b ≡ allowance
-        → leaves r (now (file .exit)) ≡ ranNumbers (inParts (now (sheet .entry)) (now (file .entry)) machine start a b)) ⌝ }
+        → leaves r (now (file .exit)) ≡ runNumbers (inParts (now (sheet .entry)) (now (file .entry)) machine start a b)) ⌝ }
 {
     let answer = run::run(sheet, file, machine, start as usize, allowance as usize);
     let reason = answer.reason;

@@ -26,7 +26,7 @@ use Rattle.handler.specs.Form.{savesStatus, savesQ}
 use Rattle.interrupt.specs.declared.Verdict.{Verdict}
 use Rattle.interrupt.specs.declared.Verdict.the-variants.{Fine, Refused}
 use Rattle.interrupt.specs.declared.Served.{Served}
-use Rattle.interrupt.specs.Interrupt.{verdictOf, Left, left, servedBy, unlessRefused, lineOf, interruptedOf, markOf, servedNumbers, Numbered}
+use Rattle.interrupt.specs.Interrupt.{verdictOf, Left, left, servedBy, unlessRefused, lineOf, interruptedOf, markOf, servedOutcome, Numbered}
 use Rattle.interrupt.specs.Demand3.{alone, again, Own, NoTrace}
 use Rattle.interrupt.proofs.Owners.{Names, Agree, Same, Handler, Line, times}
 use Rattle.interrupt.proofs.NoTrace.{undisturbed, alike, untouched}
@@ -138,7 +138,7 @@ module _ (main h schedule file : List ℕ) (m : Machine) (registers : (r : ℕ) 
   numbered = go (verdictOf main h schedule (length file))
     where
       go : (v : Verdict) → (unlessRefused v file m (servedBy line t) .answer .mark ≡ markOf v)
-          × (outcomeOf (unlessRefused v file m (servedBy line t) .answer .reason) (unlessRefused v file m (servedBy line t) .answer .place) ≡ servedNumbers v (length line))
+          × (outcomeOf (unlessRefused v file m (servedBy line t) .answer .reason) (unlessRefused v file m (servedBy line t) .answer .place) ≡ servedOutcome v (length line))
       go Fine = (refl, refl)
       go (Refused k r p) = (refl, refl)
 

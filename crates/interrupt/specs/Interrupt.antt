@@ -82,12 +82,12 @@ abbrev pub markOf : Verdict → ℕ
 markOf Fine = inNeither
 markOf (Refused k r p) = k
 
-abbrev pub servedNumbers : Verdict → ℕ → Outcome
-servedNumbers Fine n = outcomeOf Done n
-servedNumbers (Refused k r p) n = outcomeOf r p
+abbrev pub servedOutcome : Verdict → ℕ → Outcome
+servedOutcome Fine n = outcomeOf Done n
+servedOutcome (Refused k r p) n = outcomeOf r p
 
 -- an answer's mark and numbers are these
 abbrev pub Numbered : List ℕ → List ℕ → List ℕ → ℕ → Served → Type 0
 Numbered main h schedule lent a =
     (a .mark ≡ markOf (verdictOf main h schedule lent))
-    × (outcomeOf (a .reason) (a .place) ≡ servedNumbers (verdictOf main h schedule lent) (length (lineOf main h schedule)))
+    × (outcomeOf (a .reason) (a .place) ≡ servedOutcome (verdictOf main h schedule lent) (length (lineOf main h schedule)))

@@ -25,7 +25,7 @@ use Rattle.sheet.proofs.Table.{ready, start-within, start-later}
 use Rattle.sheet.proofs.Answers.{check-tells}
 use Rattle.run.specs.declared.Going.{Going}
 use Rattle.run.specs.declared.RunAnswer.{RunAnswer}
-use Rattle.run.specs.Run.{stateOf, entering, Sane, executed, Ended, ended, ran, unless, runOf, ranNumbers, runNumbers, afterwards, together, inParts, Stepped, Went}
+use Rattle.run.specs.Run.{stateOf, entering, Sane, executed, Ended, ended, ran, unless, runOf, outcomeAfter, runOutcome, afterwards, together, inParts, Stepped, Went}
 use Rattle.run.proofs.Laws.{each-ready, execs-sane}
 
 -- ---- the two ways in which a run ends
@@ -149,21 +149,21 @@ module _ (s file : List ℕ) (m : Machine) (start allowance : ℕ) where
           let n : numberOf r ≡ 0 = ap numberOf f in
           absurd (omega (arith, check-tells s (Number (length file)) (Number start) r p d))
 
-  told : outcomeOf (runOf s file m start allowance .answer .reason) (runOf s file m start allowance .answer .place) ≡ runNumbers s (length file) start allowance
+  told : outcomeOf (runOf s file m start allowance .answer .reason) (runOf s file m start allowance .answer .place) ≡ runOutcome s (length file) start allowance
   unfolding runOf
   told = go (checkOf s (Number (length file)) (Number start))
     where
       ws : List Word
       ws = executed s start allowance
 
-      go : (c : Check) → outcomeOf (unless c file m (ran ws (entering file m)) .answer .reason) (unless c file m (ran ws (entering file m)) .answer .place) ≡ ranNumbers c (length ws)
+      go : (c : Check) → outcomeOf (unless c file m (ran ws (entering file m)) .answer .reason) (unless c file m (ran ws (entering file m)) .answer .place) ≡ outcomeAfter c (length ws)
       go Passed = refl
       go (Bad r p) = refl
 
   -- The answer in numbers; and where the run is done, it is the same as any two runs of parts of its allowance, one after the other.
   pub promised : ((r : ℕ) → readAt file r < 2 ^ 32) → m .q < 2 ^ 32 → (r : RunAnswer) (l : List ℕ) → ended r l ≡ runOf s file m start allowance
       → (ended r l ≡ runOf s file m start allowance)
-      × ((outcomeOf (r .reason) (r .place) ≡ runNumbers s (length file) start allowance)
+      × ((outcomeOf (r .reason) (r .place) ≡ runOutcome s (length file) start allowance)
       × (r .reason ≡ Done → (a b : ℕ) → a + b ≡ allowance → ended r l ≡ inParts s file m start a b))
   promised registers q r l e = (
     e,

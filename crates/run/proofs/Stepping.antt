@@ -22,7 +22,7 @@ use Rattle.sheet.specs.declared.Given.the-variants.{Number}
 use Rattle.sheet.proofs.Positions.{All, all-drop}
 use Rattle.sheet.proofs.Positions.All.{none, more}
 use Rattle.sheet.proofs.Table.{ready}
-use Rattle.run.specs.Run.{entering, Ended, ended, ran, runOf, ranNumbers, runNumbers}
+use Rattle.run.specs.Run.{entering, Ended, ended, ran, runOf, outcomeAfter, runOutcome}
 use Rattle.run.specs.Step.{Halted, halted, idle, standing, ranAs, leftBy, performedOn, firstOn, unless, oneWordOf}
 use Rattle.run.proofs.Laws.{each-ready}
 use Rattle.run.proofs.Parts.{run-refused, run-is}
@@ -76,7 +76,7 @@ module _ (s file : List ℕ) (m : Machine) (start : ℕ) where
 
   -- its reason and place have the numbers of a run with an allowance of 1
   pub step-numbers : (h : Halted) → h ≡ oneWordOf s file m start
-      → (h ≡ oneWordOf s file m start) × (outcomeOf (h .answer .reason) (h .answer .place) ≡ runNumbers s (length file) start 1)
+      → (h ≡ oneWordOf s file m start) × (outcomeOf (h .answer .reason) (h .answer .place) ≡ runOutcome s (length file) start 1)
   unfolding oneWordOf
   step-numbers h e =
       (e, ap numbered e ∙ go (checkOf s (Number (length file)) (Number start)) (drop start (executionsOf s)))
@@ -84,7 +84,7 @@ module _ (s file : List ℕ) (m : Machine) (start : ℕ) where
       numbered : Halted → Outcome
       numbered x = outcomeOf (x .answer .reason) (x .answer .place)
 
-      go : (c : Check) (ws : List Word) → numbered (unless c file m (firstOn ws file m)) ≡ ranNumbers c (length (take 1 ws))
+      go : (c : Check) (ws : List Word) → numbered (unless c file m (firstOn ws file m)) ≡ outcomeAfter c (length (take 1 ws))
       go Passed [] = refl
       go Passed (w ∷ ws) = refl
       go (Bad r p) ws = refl

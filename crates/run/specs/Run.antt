@@ -57,12 +57,12 @@ runOf s file m start allowance =
     unless (checkOf s (Number (length file)) (Number start)) file m (ran (executed s start allowance) (entering file m))
 
 -- in numbers: 0 and the executions that ran, or the number and the place of a refusal
-abbrev pub ranNumbers : Check → ℕ → Outcome
-ranNumbers Passed n = outcomeOf Done n
-ranNumbers (Bad reason place) n = outcomeOf reason place
+abbrev pub outcomeAfter : Check → ℕ → Outcome
+outcomeAfter Passed n = outcomeOf Done n
+outcomeAfter (Bad reason place) n = outcomeOf reason place
 
-abbrev pub runNumbers : List ℕ → ℕ → ℕ → ℕ → Outcome
-runNumbers s lent start allowance = ranNumbers (checkOf s (Number lent) (Number start)) (length (executed s start allowance))
+abbrev pub runOutcome : List ℕ → ℕ → ℕ → ℕ → Outcome
+runOutcome s lent start allowance = outcomeAfter (checkOf s (Number lent) (Number start)) (length (executed s start allowance))
 
 -- ---- running in parts
 -- a run from what another left, from the execution after its last on

@@ -16,7 +16,7 @@ ghost use Rattle.reasons.specs.Reasons.{outcomeOf};
 ghost use Rattle.machine.specs.Status.{Good};
 ghost use Rattle.chip.specs.Lists.{state};
 ghost use Rattle.sheet.specs.Sheet.{sheetOf, wordsOf, wordAt, executionsOf, between, WordReady, Ready};
-ghost use Rattle.run.specs.Run.{Stepped, Went, ended, runOf, runNumbers, inParts};
+ghost use Rattle.run.specs.Run.{Stepped, Went, ended, runOf, runOutcome, inParts};
 ghost use Rattle.run.specs.Step.{standing, halted, idle, performedOn, oneWordOf};
 
 // What a run answers: done, with the number of words run as its place, or the reason and place of a refusal; Q and status.
@@ -156,7 +156,7 @@ pub fn run(
     allowance: usize,
 ) -> RunAnswer
     ensures { λ r. ⌜ ended r (now (file .exit)) ≡ runOf (now (sheet .entry)) (now (file .entry)) machine start allowance ⌝ }
-    ensures numbers { λ r. ⌜ outcomeOf (r .reason) (r .place) ≡ runNumbers (now (sheet .entry)) (length (now (file .entry))) start allowance ⌝ }
+    ensures numbers { λ r. ⌜ outcomeOf (r .reason) (r .place) ≡ runOutcome (now (sheet .entry)) (length (now (file .entry))) start allowance ⌝ }
     ensures in_parts { λ r. ⌜ (r .reason ≡ Reason.Done → (a b : ℕ) → a + b ≡ allowance
         → ended r (now (file .exit)) ≡ inParts (now (sheet .entry)) (now (file .entry)) machine start a b) ⌝ }
 {
@@ -248,7 +248,7 @@ fn perform(word: Word, file: &mut [u32], machine: Machine) -> StepAnswer
 // Runs execution `start` of a sheet, if there is one, and shows what it leaves.
 pub fn one_word(sheet: &[u8], file: &mut [u32], machine: Machine, start: usize) -> StepAnswer
     ensures { λ r. ⌜ halted r (now (file .exit)) ≡ oneWordOf (now (sheet .entry)) (now (file .entry)) machine start ⌝ }
-    ensures numbers { λ r. ⌜ outcomeOf (r .reason) (r .place) ≡ runNumbers (now (sheet .entry)) (length (now (file .entry))) start 1 ⌝ }
+    ensures numbers { λ r. ⌜ outcomeOf (r .reason) (r .place) ≡ runOutcome (now (sheet .entry)) (length (now (file .entry))) start 1 ⌝ }
 {
     let check = sheet::check_start(sheet, file.len(), start);
     if let Check::Bad { reason, place } = check {
