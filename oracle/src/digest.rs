@@ -166,8 +166,8 @@ impl Right {
         }
     }
 
-    /// The first sums that a fault changes. A sum that differs once stays
-    /// different, so the rest of the line is not made.
+    /// The first sums that a fault changes. A sum that differs once comes out
+    /// the same again only by chance, so the rest of the line is not made.
     fn first_change(&self, opcode: u8, fault: Fault) -> Option<(Sums, Sums)> {
         let planted = Faults::plant(fault);
         let mut both = self

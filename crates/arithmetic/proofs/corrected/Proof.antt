@@ -9,14 +9,5 @@ returns c = rw (c .merge .ensures, c .before .bit .ensures, c .before .before .t
 pub corrected-spec : {M : Type 1} → statement M
 corrected-spec =
     tie.close
-    (tie.spec
-    (search needs)
-    (search needs)
-    (search needs)
-    (search needs)
-    (search needs)
-    (search needs)
-    (search needs)
-    (search needs)
-    (search needs)
-    returns)
+    (tie.spec (search needs) (search needs) (search needs) (search needs) (search needs) (search needs) (search needs) (search needs)
+    (search needs) returns)

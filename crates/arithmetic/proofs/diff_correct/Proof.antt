@@ -20,11 +20,4 @@ returns c =
 pub diff-correct-spec : {M : Type 1} → statement M
 diff-correct-spec =
     tie.close
-    (tie.spec
-    (search needs)
-    (search needs)
-    (search needs)
-    (search needs)
-    (search needs)
-    (search needs)
-    returns)
+    (tie.spec (search needs) (search needs) (search needs) (search needs) (search needs) (search needs) returns)

@@ -6,8 +6,7 @@ use Rattle.chip.proofs.perform.Tie as tie
 pub perform-spec : {M : Type 1} → statement M
 perform-spec =
     tie.close
-    (tie.spec
-    (search needs) (search needs) (search needs) (search needs) (search needs) (search needs)
+    (tie.spec (search needs) (search needs) (search needs) (search needs) (search needs) (search needs)
     (search needs) (search needs) (search needs) (search needs) (search needs) (search needs)
     (λ c. rw (c .before .before .operation .given .1) (c .basic .ensures))
     (λ c. rw (c .before .before .operation2 .given .1) (c .shift .ensures))

@@ -19,11 +19,4 @@ returns-2 c = in-numbers (c .before .before .before .before .before .args .s) _ 
 pub single-word-spec : {M : Type 1} → statement M
 single-word-spec =
     tie.close
-    (tie.spec
-    (search needs)
-    (search needs)
-    (search needs)
-    (search needs)
-    admit-requires
-    returns
-    returns-2)
+    (tie.spec (search needs) (search needs) (search needs) (search needs) admit-requires returns returns-2)

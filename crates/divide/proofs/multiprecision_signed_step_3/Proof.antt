@@ -15,12 +15,4 @@ returns c =
 pub multiprecision-signed-step-3-spec : {M : Type 1} → statement M
 multiprecision-signed-step-3-spec =
     tie.close
-    (tie.spec
-    (search needs)
-    (search needs)
-    (search needs)
-    (search needs)
-    (search needs)
-    (search needs)
-    (search needs)
-    returns)
+    (tie.spec (search needs) (search needs) (search needs) (search needs) (search needs) (search needs) (search needs) returns)

@@ -15,13 +15,5 @@ returns c =
 pub multiprecision-unsigned-step-3-spec : {M : Type 1} → statement M
 multiprecision-unsigned-step-3-spec =
     tie.close
-    (tie.spec
-    (search needs)
-    (search needs)
-    (search needs)
-    (search needs)
-    (search needs)
-    (search needs)
-    (search needs)
-    (search needs)
+    (tie.spec (search needs) (search needs) (search needs) (search needs) (search needs) (search needs) (search needs) (search needs)
     returns)

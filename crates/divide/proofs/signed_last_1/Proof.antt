@@ -16,10 +16,4 @@ returns c =
 pub signed-last-1-spec : {M : Type 1} → statement M
 signed-last-1-spec =
     tie.close
-    (tie.spec
-    (search needs)
-    (search needs)
-    (search needs)
-    (search needs) (search needs)
-    (search needs)
-    returns)
+    (tie.spec (search needs) (search needs) (search needs) (search needs) (search needs) (search needs) returns)

@@ -13,10 +13,4 @@ returns c =
 pub step-on-bytes-spec : {M : Type 1} → statement M
 step-on-bytes-spec =
     tie.close
-    (tie.spec
-    (search needs)
-    (search needs)
-    (search needs) (search needs)
-    (search needs)
-    (search needs)
-    returns)
+    (tie.spec (search needs) (search needs) (search needs) (search needs) (search needs) (search needs) returns)

@@ -16,11 +16,4 @@ returns c =
 pub unsigned-first-spec : {M : Type 1} → statement M
 unsigned-first-spec =
     tie.close
-    (tie.spec
-    (search needs)
-    (search needs)
-    (search needs)
-    (search needs) (search needs)
-    (search needs)
-    (search needs)
-    returns)
+    (tie.spec (search needs) (search needs) (search needs) (search needs) (search needs) (search needs) (search needs) returns)

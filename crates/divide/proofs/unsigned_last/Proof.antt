@@ -15,12 +15,5 @@ returns c =
 pub unsigned-last-spec : {M : Type 1} → statement M
 unsigned-last-spec =
     tie.close
-    (tie.spec
-    (search needs)
-    (search needs)
-    (search needs)
-    (search needs) (search needs)
-    (search needs)
-    (search needs)
-    (search needs)
+    (tie.spec (search needs) (search needs) (search needs) (search needs) (search needs) (search needs) (search needs) (search needs)
     returns)

@@ -29,10 +29,4 @@ returns-2 c =
 pub check-handler-spec : {M : Type 1} → statement M
 check-handler-spec =
     tie.close
-    (tie.spec
-    (search needs)
-    (search needs)
-    returns
-    (search needs)
-    form-requires
-    returns-2)
+    (tie.spec (search needs) (search needs) returns (search needs) form-requires returns-2)

@@ -44,21 +44,5 @@ returns-7 c = c .body-fault .ensures ∙ rw (c .before .before .before .before .
 pub fault-spec : {M : Type 1} → statement M
 fault-spec =
     tie.close
-    (tie.spec
-    (search needs)
-    (search needs)
-    returns
-    (search needs)
-    returns-2
-    (search needs)
-    returns-3
-    (search needs)
-    returns-4
-    sub-if5
-    (search needs)
-    returns-5
-    sub-if6
-    (search needs)
-    returns-6
-    (search needs)
-    returns-7)
+    (tie.spec (search needs) (search needs) returns (search needs) returns-2 (search needs) returns-3 (search needs) returns-4 sub-if5
+    (search needs) returns-5 sub-if6 (search needs) returns-6 (search needs) returns-7)

@@ -19,11 +19,4 @@ returns-2 c =
 pub form-spec : {M : Type 1} → statement M
 form-spec =
     tie.close
-    (tie.spec
-    (search needs)
-    (search needs)
-    returns
-    (search needs)
-    (search needs)
-    (search needs)
-    returns-2)
+    (tie.spec (search needs) (search needs) returns (search needs) (search needs) (search needs) returns-2)

@@ -11,9 +11,4 @@ returns c = rw (c .meet .ensures, c .before .destination .ensures, c .before .be
 pub giving-back-fault-spec : {M : Type 1} → statement M
 giving-back-fault-spec =
     tie.close
-    (tie.spec
-    (search needs)
-    (search needs)
-    (search needs)
-    (search needs)
-    returns)
+    (tie.spec (search needs) (search needs) (search needs) (search needs) returns)

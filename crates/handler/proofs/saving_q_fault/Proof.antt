@@ -11,8 +11,4 @@ returns c = rw (c .meet .ensures, c .before .sources .ensures, c .before .before
 pub saving-q-fault-spec : {M : Type 1} → statement M
 saving-q-fault-spec =
     tie.close
-    (tie.spec
-    (search needs)
-    (search needs)
-    (search needs)
-    returns)
+    (tie.spec (search needs) (search needs) (search needs) returns)

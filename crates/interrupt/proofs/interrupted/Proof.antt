@@ -41,13 +41,4 @@ returns-2 c =
 pub interrupted-spec : {M : Type 1} → statement M
 interrupted-spec =
     tie.close
-    (tie.spec
-    (search needs)
-    (search needs)
-    returns
-    (search needs)
-    (search needs)
-    serve-requires
-    leave-requires
-    (search needs)
-    returns-2)
+    (tie.spec (search needs) (search needs) returns (search needs) (search needs) serve-requires leave-requires (search needs) returns-2)

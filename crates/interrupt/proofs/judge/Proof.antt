@@ -36,14 +36,5 @@ returns-3 c =
 pub judge-spec : {M : Type 1} → statement M
 judge-spec =
     tie.close
-    (tie.spec
-    (search needs)
-    (search needs)
-    returns
-    (search needs)
-    (search needs)
-    (search needs)
-    returns-2
-    (search needs)
-    judge-pair-requires
-    returns-3)
+    (tie.spec (search needs) (search needs) returns (search needs) (search needs) (search needs) returns-2 (search needs)
+    judge-pair-requires returns-3)

@@ -11,11 +11,4 @@ returns c = rw (c .sign2 .ensures, c .before .is-zero .ensures, c .before .befor
 pub sign-extend-spec : {M : Type 1} → statement M
 sign-extend-spec =
     tie.close
-    (tie.spec
-    (search needs)
-    (search needs)
-    (search needs)
-    (search needs)
-    (search needs) (search needs)
-    (search needs)
-    returns)
+    (tie.spec (search needs) (search needs) (search needs) (search needs) (search needs) (search needs) (search needs) returns)

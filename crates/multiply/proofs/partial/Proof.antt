@@ -36,15 +36,5 @@ returns c =
 pub partial-spec : {M : Type 1} → statement M
 partial-spec =
     tie.close
-    (tie.spec
-    (search needs)
-    (search needs)
-    mul-added
-    (search needs)
-    (search needs)
-    mul-taken-2
-    add-result
-    (search needs)
-    sub-result
-    add-result-2
-    returns)
+    (tie.spec (search needs) (search needs) mul-added (search needs) (search needs) mul-taken-2 add-result (search needs) sub-result
+    add-result-2 returns)

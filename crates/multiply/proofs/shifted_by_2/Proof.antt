@@ -20,12 +20,4 @@ returns c =
 pub shifted-by-2-spec : {M : Type 1} → statement M
 shifted-by-2-spec =
     tie.close
-    (tie.spec
-    (search needs)
-    (search needs)
-    (search needs)
-    (search needs)
-    (search needs)
-    (search needs)
-    (search needs)
-    returns)
+    (tie.spec (search needs) (search needs) (search needs) (search needs) (search needs) (search needs) (search needs) returns)

@@ -46,13 +46,4 @@ returns-4 c =
 pub pack-spec : {M : Type 1} → statement M
 pack-spec =
     tie.close
-    (tie.spec
-    (search needs)
-    returns
-    (search needs)
-    returns-2
-    returns-3
-    packed-number-requires
-    (search needs)
-    (search needs)
-    returns-4)
+    (tie.spec (search needs) returns (search needs) returns-2 returns-3 packed-number-requires (search needs) (search needs) returns-4)

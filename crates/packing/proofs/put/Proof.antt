@@ -25,12 +25,4 @@ returns c = let a = c .args in sets-eq (a .b0 ∷ a .b1 ∷ a .b2 ∷ a .b3 ∷ 
 pub put-spec : {M : Type 1} → statement M
 put-spec =
     tie.close
-    (tie.spec
-    (search needs)
-    slice-write-d-2
-    slice-write-d-3
-    slice-write-d-4
-    slice-write-d-5
-    (λ c. search needs)
-    (search needs)
-    returns)
+    (tie.spec (search needs) slice-write-d-2 slice-write-d-3 slice-write-d-4 slice-write-d-5 (λ c. search needs) (search needs) returns)

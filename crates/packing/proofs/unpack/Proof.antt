@@ -40,14 +40,5 @@ returns-4 c =
 pub unpack-spec : {M : Type 1} → statement M
 unpack-spec =
     tie.close
-    (tie.spec
-    (search needs)
-    returns
-    (search needs)
-    (search needs)
-    returns-2
-    (search needs)
-    (search needs)
-    (search needs)
-    returns-3
+    (tie.spec (search needs) returns (search needs) (search needs) returns-2 (search needs) (search needs) (search needs) returns-3
     returns-4)

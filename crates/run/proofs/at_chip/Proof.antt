@@ -37,11 +37,4 @@ returns c =
 pub at-chip-spec : {M : Type 1} → statement M
 at-chip-spec =
     tie.close
-    (tie.spec
-    (search needs)
-    (search needs)
-    (search needs)
-    (search needs)
-    (search needs)
-    (search needs)
-    returns)
+    (tie.spec (search needs) (search needs) (search needs) (search needs) (search needs) (search needs) returns)

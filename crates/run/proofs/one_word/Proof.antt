@@ -90,18 +90,5 @@ returns-3 c =
 pub one-word-spec : {M : Type 1} → statement M
 one-word-spec =
     tie.close
-    (tie.spec
-    (search needs)
-    (search needs)
-    (search needs)
-    returns
-    (search needs)
-    executions-requires
-    (search needs)
-    leave-requires
-    (search needs)
-    returns-2
-    word-at-requires
-    perform-requires
-    (search needs)
-    returns-3)
+    (tie.spec (search needs) (search needs) (search needs) returns (search needs) executions-requires (search needs) leave-requires
+    (search needs) returns-2 word-at-requires perform-requires (search needs) returns-3)

@@ -24,13 +24,5 @@ returns-2 c =
 pub perform-spec : {M : Type 1} → statement M
 perform-spec =
     tie.close
-    (tie.spec
-    (λ c κs. search needs)
-    (search needs)
-    (search needs)
-    (search needs)
-    (search needs)
-    (search needs)
-    returns
-    (search needs)
+    (tie.spec (λ c κs. search needs) (search needs) (search needs) (search needs) (search needs) (search needs) returns (search needs)
     returns-2)

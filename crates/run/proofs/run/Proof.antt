@@ -64,17 +64,5 @@ returns-2 c =
 pub run-spec : {M : Type 1} → statement M
 run-spec =
     tie.close
-    (tie.spec
-    (search needs)
-    (search needs)
-    returns
-    (search needs)
-    executions-requires
-    sub-least
-    (search needs)
-    (search needs)
-    (search needs)
-    span-requires
-    leave-requires
-    (search needs)
-    returns-2)
+    (tie.spec (search needs) (search needs) returns (search needs) executions-requires sub-least (search needs) (search needs)
+    (search needs) span-requires leave-requires (search needs) returns-2)

@@ -52,19 +52,5 @@ returns-4 c =
 pub check-spec : {M : Type 1} → statement M
 check-spec =
     tie.close
-    (tie.spec
-    returns
-    (search needs)
-    (search needs)
-    (search needs)
-    returns-2
-    (search needs)
-    (search needs)
-    (search needs)
-    check-words-requires
-    (search needs)
-    returns-3
-    (search needs)
-    (search needs)
-    (search needs)
-    returns-4)
+    (tie.spec returns (search needs) (search needs) (search needs) returns-2 (search needs) (search needs) (search needs)
+    check-words-requires (search needs) returns-3 (search needs) (search needs) (search needs) returns-4)

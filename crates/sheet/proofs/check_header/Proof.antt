@@ -73,19 +73,5 @@ returns-4 c =
 pub check-header-spec : {M : Type 1} → statement M
 check-header-spec =
     tie.close
-    (tie.spec
-    (search needs)
-    (search needs)
-    returns
-    (search needs)
-    (search needs)
-    (search needs)
-    (search needs)
-    (search needs)
-    (search needs)
-    mul-if1-2
-    add-if1-2
-    returns-2
-    (search needs)
-    returns-3
-    returns-4)
+    (tie.spec (search needs) (search needs) returns (search needs) (search needs) (search needs) (search needs) (search needs)
+    (search needs) mul-if1-2 add-if1-2 returns-2 (search needs) returns-3 returns-4)

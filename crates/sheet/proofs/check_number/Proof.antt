@@ -37,11 +37,4 @@ returns-4 c =
 pub check-number-spec : {M : Type 1} → statement M
 check-number-spec =
     tie.close
-    (tie.spec
-    returns
-    (search needs)
-    (search needs)
-    returns-2
-    (search needs)
-    returns-3
-    returns-4)
+    (tie.spec returns (search needs) (search needs) returns-2 (search needs) returns-3 returns-4)

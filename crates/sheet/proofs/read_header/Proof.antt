@@ -28,16 +28,5 @@ returns-3 c =
 pub read-header-spec : {M : Type 1} → statement M
 read-header-spec =
     tie.close
-    (tie.spec
-    (search needs)
-    returns
-    (search needs)
-    (search needs)
-    (search needs)
-    (search needs)
-    returns-2
-    (search needs)
-    (search needs)
-    (search needs)
-    (search needs)
-    returns-3)
+    (tie.spec (search needs) returns (search needs) (search needs) (search needs) (search needs) returns-2 (search needs) (search needs)
+    (search needs) (search needs) returns-3)

@@ -57,18 +57,5 @@ returns c =
 pub fill-spec : {M : Type 1} → statement M
 fill-spec =
     tie.close
-    (tie.spec
-    Inv-loop
-    μ-loop
-    executions-requires
-    (search needs)
-    (search needs)
-    loop-holds
-    trace-word-requires
-    (λ c. omega arith)
-    (λ c. omega arith)
-    loop-again
-    mul-result
-    same-length
-    same-length-2
-    returns)
+    (tie.spec Inv-loop μ-loop executions-requires (search needs) (search needs) loop-holds trace-word-requires (λ c. omega arith)
+    (λ c. omega arith) loop-again mul-result same-length same-length-2 returns)

@@ -22,10 +22,4 @@ returns c =
 pub put-last-spec : {M : Type 1} → statement M
 put-last-spec =
     tie.close
-    (tie.spec
-    (search needs)
-    (search needs)
-    put-requires
-    (search needs)
-    (search needs)
-    returns)
+    (tie.spec (search needs) (search needs) put-requires (search needs) (search needs) returns)

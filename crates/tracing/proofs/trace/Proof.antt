@@ -35,17 +35,5 @@ trace-run-requires c κs =
 pub trace-spec : {M : Type 1} → statement M
 trace-spec =
     tie.close
-    (tie.spec
-    (search needs)
-    (search needs)
-    (search needs)
-    (search needs)
-    returns
-    (search needs)
-    declared-requires
-    (search needs)
-    (search needs)
-    part-file-end
-    trace-run-requires
-    (search needs)
-    (λ c. c .before .before .before .trace-run .ensures))
+    (tie.spec (search needs) (search needs) (search needs) (search needs) returns (search needs) declared-requires (search needs)
+    (search needs) part-file-end trace-run-requires (search needs) (λ c. c .before .before .before .trace-run .ensures))

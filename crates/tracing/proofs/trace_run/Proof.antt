@@ -49,12 +49,4 @@ returns c =
 pub trace-run-spec : {M : Type 1} → statement M
 trace-run-spec =
     tie.close
-    (tie.spec
-    sheet-size-requires
-    load-requires
-    fill-requires
-    executions-requires
-    put-last-requires
-    (search needs)
-    (search needs)
-    returns)
+    (tie.spec sheet-size-requires load-requires fill-requires executions-requires put-last-requires (search needs) (search needs) returns)

@@ -27,12 +27,4 @@ returns c =
 pub trace-word-spec : {M : Type 1} → statement M
 trace-word-spec =
     tie.close
-    (tie.spec
-    step-at-requires
-    line-requires
-    (search needs)
-    mul-put
-    put-requires
-    (search needs)
-    (search needs)
-    returns)
+    (tie.spec step-at-requires line-requires (search needs) mul-put put-requires (search needs) (search needs) returns)

@@ -26,11 +26,4 @@ returns c =
 pub extract-pair-spec : {M : Type 1} → statement M
 extract-pair-spec =
     tie.close
-    (tie.spec
-    (search needs)
-    (search needs)
-    (search needs)
-    (search needs)
-    (search needs)
-    (search needs)
-    returns)
+    (tie.spec (search needs) (search needs) (search needs) (search needs) (search needs) (search needs) returns)

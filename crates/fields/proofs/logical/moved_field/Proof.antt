@@ -27,11 +27,4 @@ returns-2 c =
 pub moved-field-spec : {M : Type 1} → statement M
 moved-field-spec =
     tie.close
-    (tie.spec
-    (search needs)
-    (search needs)
-    (search needs)
-    returns
-    (search needs)
-    (search needs)
-    returns-2)
+    (tie.spec (search needs) (search needs) (search needs) returns (search needs) (search needs) returns-2)

@@ -22,12 +22,4 @@ returns c =
 pub down-spec : {M : Type 1} → statement M
 down-spec =
     tie.close
-    (tie.spec
-    (search needs)
-    (search needs)
-    (search needs)
-    (search needs)
-    (search needs)
-    sub-result-3
-    add-result
-    returns)
+    (tie.spec (search needs) (search needs) (search needs) (search needs) (search needs) sub-result-3 add-result returns)
