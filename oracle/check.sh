@@ -29,6 +29,8 @@ same() {
 echo "== data"
 same digest ../crates/digest/stdout
 same vectors ../crates/vectors/stdin
+same pairs-sheets ../crates/pairs/stdin
+same pairs ../crates/pairs/stdout
 ./interrupts.sh --same
 echo "interrupts: same as ../crates/interrupts/stdin"
 ./traces.sh --same

@@ -12,11 +12,13 @@ mod faults;
 mod field;
 mod handler;
 mod interrupt;
+mod lists;
 mod logic;
 mod movement;
 mod multiply;
 mod on_registers;
 mod pages;
+mod pairs;
 mod run;
 mod selftest;
 mod sheet;
@@ -30,7 +32,8 @@ use std::path::Path;
 use std::process::ExitCode;
 
 const USAGE: &str = "usage: oracle selftest | digest | vectors | faults | trace
-       oracle trace-inputs DIR COUNT | longest | interrupts COUNT";
+       oracle trace-inputs DIR COUNT | longest | interrupts COUNT
+       oracle pairs | pairs-sheets";
 
 fn main() -> ExitCode {
     let arguments: Vec<String> = std::env::args().skip(1).collect();
@@ -42,8 +45,10 @@ fn main() -> ExitCode {
         ["faults"] => Ok(digest::try_faults()),
         ["trace"] => trace_input(),
         ["trace-inputs", folder, count] => write_inputs(folder, count),
-        ["longest"] => write_longest(),
+        ["longest"] => write(&cases::longest_input()),
         ["interrupts", count] => print(&cases::interrupt_text(number(count))),
+        ["pairs"] => print(&pairs::pairs_text()),
+        ["pairs-sheets"] => write(&pairs::pairs_sheets()),
         _ => {
             eprintln!("{USAGE}");
             Ok(false)
@@ -60,7 +65,11 @@ fn main() -> ExitCode {
 }
 
 fn print(text: &str) -> io::Result<bool> {
-    io::stdout().write_all(text.as_bytes())?;
+    write(text.as_bytes())
+}
+
+fn write(bytes: &[u8]) -> io::Result<bool> {
+    io::stdout().write_all(bytes)?;
     Ok(true)
 }
 
@@ -72,11 +81,6 @@ fn trace_input() -> io::Result<bool> {
 
 fn write_inputs(folder: &str, count: &str) -> io::Result<bool> {
     cases::write_trace_inputs(Path::new(folder), number(count))?;
-    Ok(true)
-}
-
-fn write_longest() -> io::Result<bool> {
-    io::stdout().write_all(&cases::longest_input())?;
     Ok(true)
 }
 

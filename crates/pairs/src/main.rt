@@ -1,11 +1,13 @@
-// The signed multiplication and the signed division of all pairs of one-byte numbers, each run beside plain arithmetic, from two statuses. It
-// reads four sheets, packed, one after the other, all on registers 0 to 4; in the words of examples/pack.py (M14 and M48 of docs/MANUAL.md say
-// what each word is for). The multiplication, Q times register 0, high half in register 1, low half in Q:
+// The signed multiplication and the signed division of all pairs of one-byte numbers, each run beside plain arithmetic, from two statuses; and the
+// division of every dividend of two bytes by every divisor of one, where the quotient fits one. It reads four sheets, packed, one after the other,
+// all on registers 0 to 4; in the words of examples/pack.py (M48 of docs/MANUAL.md says what each word is for). The multiplication, Q times register
+// 0, high half in register 1, low half in Q:
 //
 //     SMULFIRST   1 A=0 B=1 Y=1 write
 //     SMULSTEP    1 x3 A=0 B=1 Y=1 write
 //
-// The division, register 4 by register 0, remainder in register 1, quotient in register 2; register 3 holds 0:
+// The division, register 4 by register 0, remainder in register 1, quotient in register 2; register 3 holds 0. A dividend of two bytes, in register 1
+// and Q, starts at SDIVFIRST:
 //
 //     LOADQ-A     1 A=4
 //     SIGN        1 B=1 Y=1 write
@@ -27,18 +29,25 @@ use lines::print_word;
 use machine::Machine;
 ghost use Prim.Native.Nat.{_+_, _≤_, _<_};
 
-const PAIRS: u32 = 65536;
+// Pairs of a byte and a byte, and of two bytes and a byte.
+const PAIRS: u32 = 0x1_0000;
+
+const LONG_PAIRS: u32 = 0x100_0000;
 
 // More words than any of the sheets has.
 const ALLOWANCE: usize = 0x1000;
 
-// Which list a sheet is.
+// Where SDIVFIRST stands in the division.
+const SDIVFIRST: usize = 2;
+
+// What a sheet is run for: a product; a quotient and remainder; those of a dividend of two bytes.
 pub enum List {
     Multiply,
     Divide,
+    DivideLong,
 }
 
-// Two one-byte numbers, the multiplier and the multiplicand or the dividend and the divisor, and the status before the list.
+// Multiplier and multiplicand, or dividend and divisor, as numbers of two bytes, and the status before the list.
 pub struct Case {
     pub x: u32,
     pub y: u32,
@@ -63,19 +72,27 @@ pub struct Tally {
 
 // ---- arithmetic, by sign and size
 
-// The sign of a one-byte number.
-fn sign(x: u32) -> u32 {
-    x / 128 % 2
+// A one-byte number as one of two bytes.
+fn extended(byte: u32) -> u32 {
+    if byte % 256 < 128 {
+        return byte % 256;
+    }
+    0xff00 + byte % 256
 }
 
-// Its size, 128 at most.
+// The sign of a number of two bytes.
+fn sign(x: u32) -> u32 {
+    x / 0x8000 % 2
+}
+
+// Its size.
 fn size(x: u32) -> u32
-    ensures { λ r. ⌜ r ≤ 128 ⌝ }
+    ensures { λ r. ⌜ r ≤ 32768 ⌝ }
 {
-    if x % 256 < 128 {
-        return x % 256;
+    if x % 0x1_0000 < 0x8000 {
+        return x % 0x1_0000;
     }
-    256 - x % 256
+    0x1_0000 - x % 0x1_0000
 }
 
 // The two's complement of a sign and a size.
@@ -91,13 +108,18 @@ fn product(case: Case) -> u32 {
     signed(sign(case.x) ^ sign(case.y), size(case.x) * size(case.y)) % 0x1_0000
 }
 
-// The quotient cut towards zero, one byte; 0 where the divisor is 0.
-fn quotient(case: Case) -> u32 {
+// The size of the quotient cut towards zero; of a divisor 0, a size that fits no byte.
+fn quotient_size(case: Case) -> u32 {
     let by = size(case.y);
     if by == 0 {
-        return 0;
+        return 0x8000;
     }
-    signed(sign(case.x) ^ sign(case.y), size(case.x) / by) % 0x100
+    size(case.x) / by
+}
+
+// The quotient, one byte.
+fn quotient(case: Case) -> u32 {
+    signed(sign(case.x) ^ sign(case.y), quotient_size(case)) % 0x100
 }
 
 // The remainder, one byte, of the dividend's sign; 0 where the divisor is 0.
@@ -109,15 +131,12 @@ fn remainder(case: Case) -> u32 {
     signed(sign(case.x), size(case.x) % by) % 0x100
 }
 
-// Whether something is promised of a pair: the divisor is not 0, and it is not 80 over FF, whose quotient does not fit.
-fn promised(case: Case) -> bool {
-    if case.y == 0 {
-        return false;
+// Whether something is promised of a pair: of every product; of a division, where the quotient fits one byte.
+fn promised(list: List, case: Case) -> bool {
+    if let List::Multiply = list {
+        return true;
     }
-    if case.x == 0x80 {
-        return case.y != 0xff;
-    }
-    true
+    quotient_size(case) < 128 + (sign(case.x) ^ sign(case.y)) % 2
 }
 
 // Whether a pair has a dividend below 0, remainder 0 and an odd quotient.
@@ -139,22 +158,26 @@ fn with_low(x: u32, byte: u32) -> u32 {
 }
 
 // The registers before a list. Register 5 no sheet names; in the others the upper three bytes have to stay.
-fn registers(case: Case) -> [u32; 6] {
+fn registers(list: List, case: Case) -> [u32; 6] {
+    let first = match list {
+        List::DivideLong => case.x / 256,
+        _ => 0x81,
+    };
     [
         with_low(0x8a91b3c5, case.y),
-        0x5e6f7081,
+        with_low(0x5e6f7081, first),
         0x9badc0de,
-        with_low(0xf0e1d200, 0),
+        0xf0e1d200,
         with_low(0x7f3b2a19, case.x),
         0xc35a3ca5,
     ]
 }
 
-// Q and status before a list. The low byte of Q is the multiplier; before a division it is no matter.
+// Q and status before a list. The low byte of Q is the multiplier, or the low half of a dividend of two bytes; LOADQ-A replaces it before others.
 fn start(list: List, case: Case) -> Machine {
     let low = match list {
-        List::Multiply => case.x,
         List::Divide => !case.x,
+        _ => case.x,
     };
     Machine {
         q: with_low(0xa7b6c5d4, low),
@@ -162,9 +185,23 @@ fn start(list: List, case: Case) -> Machine {
     }
 }
 
+// The word that a list starts at.
+fn first_word(list: List) -> usize {
+    match list {
+        List::DivideLong => SDIVFIRST,
+        _ => 0,
+    }
+}
+
 fn outcome(sheet: &[u8], list: List, case: Case) -> Left {
-    let mut file = registers(case);
-    let answer = run::run(sheet, &mut file, start(list, case), 0, ALLOWANCE);
+    let mut file = registers(list, case);
+    let answer = run::run(
+        sheet,
+        &mut file,
+        start(list, case),
+        first_word(list),
+        ALLOWANCE,
+    );
     let reason = answer.reason;
     let machine = answer.machine;
     Left {
@@ -178,7 +215,7 @@ fn outcome(sheet: &[u8], list: List, case: Case) -> Left {
 fn multiplied(case: Case, left: Left) -> bool {
     let value = product(case);
     let before = start(List::Multiply, case);
-    let mut file = registers(case);
+    let mut file = registers(List::Multiply, case);
     file[1] = with_low(file[1], value / 256);
     let machine = left.machine;
     if machine.q != with_low(before.q, value) {
@@ -188,8 +225,8 @@ fn multiplied(case: Case, left: Left) -> bool {
 }
 
 // Whether quotient and remainder are in registers 2 and 1, and all other registers are as they were.
-fn divided(case: Case, left: Left) -> bool {
-    let mut file = registers(case);
+fn divided(list: List, case: Case, left: Left) -> bool {
+    let mut file = registers(list, case);
     file[1] = with_low(file[1], remainder(case));
     file[2] = with_low(file[2], quotient(case));
     lines::same(&left.file, &file)
@@ -201,7 +238,7 @@ fn as_arithmetic_says(list: List, case: Case, left: Left) -> bool {
     }
     match list {
         List::Multiply => multiplied(case, left),
-        List::Divide => divided(case, left),
+        _ => divided(list, case, left),
     }
 }
 
@@ -227,9 +264,9 @@ fn summed(sum: u64, left: Left) -> u64 {
     stirred(stirred(after_5, machine.q), machine.status)
 }
 
-// The tally after one pair more of which something is promised.
+// The tally after one pair more.
 fn counted(tally: Tally, right: bool, odd: bool) -> Tally
-    requires { ⌜ (tally .right < 65536) × (tally .wrong < 65536) × (tally .odd < 65536) ⌝ }
+    requires { ⌜ (tally .right < 16777216) × (tally .wrong < 16777216) × (tally .odd < 16777216) ⌝ }
     ensures { λ r. ⌜ (r .right ≤ tally .right + 1) × (r .wrong ≤ tally .wrong + 1) × (r .odd ≤ tally .odd + 1) ⌝ }
 {
     let mut after = tally;
@@ -245,23 +282,44 @@ fn counted(tally: Tally, right: bool, odd: bool) -> Tally
     after
 }
 
-// The tally after one pair more.
+// The tally after a pair, if something is promised of it.
 fn tried(sheet: &[u8], list: List, case: Case, tally: Tally) -> Tally
-    requires { ⌜ (tally .right < 65536) × (tally .wrong < 65536) × (tally .odd < 65536) ⌝ }
+    requires { ⌜ (tally .right < 16777216) × (tally .wrong < 16777216) × (tally .odd < 16777216) ⌝ }
     ensures { λ r. ⌜ (r .right ≤ tally .right + 1) × (r .wrong ≤ tally .wrong + 1) × (r .odd ≤ tally .odd + 1) ⌝ }
 {
+    if !promised(list, case) {
+        return tally;
+    }
     let left = outcome(sheet, list, case);
     let mut after = tally;
     after.sum = summed(tally.sum, left);
-    let right = as_arithmetic_says(list, case, left);
+    let odd = match list {
+        List::Multiply => false,
+        _ => exact_and_odd(case),
+    };
+    counted(after, as_arithmetic_says(list, case, left), odd)
+}
+
+// How many pairs a list is tried on.
+fn pairs_of(list: List) -> u32
+    ensures { λ r. ⌜ r ≤ 16777216 ⌝ }
+{
     match list {
-        List::Multiply => counted(after, right, false),
-        List::Divide => {
-            if !promised(case) {
-                return after;
-            }
-            counted(after, right, exact_and_odd(case))
-        }
+        List::DivideLong => LONG_PAIRS,
+        _ => PAIRS,
+    }
+}
+
+// The pair of a number: the second operand is its low byte.
+fn case_of(list: List, pair: u32, status: u32) -> Case {
+    let x = match list {
+        List::DivideLong => pair / 256,
+        _ => extended(pair / 256),
+    };
+    Case {
+        x,
+        y: extended(pair),
+        status,
     }
 }
 
@@ -273,14 +331,10 @@ fn tallied(sheet: &[u8], list: List, status: u32) -> Tally {
         odd: 0,
         sum: 1,
     };
+    let pairs = pairs_of(list);
     let mut pair: u32 = 0;
-    while pair < PAIRS {
-        let case = Case {
-            x: pair / 256,
-            y: pair % 256,
-            status,
-        };
-        tally = tried(sheet, list, case, tally);
+    while pair < pairs {
+        tally = tried(sheet, list, case_of(list, pair, status), tally);
         pair += 1;
     }
     tally
@@ -345,7 +399,7 @@ fn sweep_both(name: &[u8], sheet: &[u8], list: List) {
 
 // ---- what is told and not promised
 
-// Of divisor 0: how many dividends ended in register 1, and how often register 2 was FF and 01.
+// Of divisor 0: how often the dividend ended in register 1, and how often register 2 was FF and 01.
 pub struct Zero {
     pub dividend: u32,
     pub ff: u32,
@@ -367,7 +421,12 @@ fn over_zero(sheet: &[u8], status: u32, x: u32, zero: Zero) -> Zero
     requires { ⌜ (zero .dividend < 256) × (zero .ff < 256) × (zero .one < 256) ⌝ }
     ensures { λ r. ⌜ (r .dividend ≤ zero .dividend + 1) × (r .ff ≤ zero .ff + 1) × (r .one ≤ zero .one + 1) ⌝ }
 {
-    let left = outcome(sheet, List::Divide, Case { x, y: 0, status });
+    let case = Case {
+        x: extended(x),
+        y: 0,
+        status,
+    };
+    let left = outcome(sheet, List::Divide, case);
     let file = left.file;
     Zero {
         dividend: more(zero.dividend, file[1] % 256 == x),
@@ -398,11 +457,7 @@ fn not_promised(sheet: &[u8], status: u32) {
     print_number(zero.dividend, b" of 256 dividends in R, K FF ");
     print_number(zero.ff, b" times, K 01 ");
     print_number(zero.one, b" times; 80 over FF leaves");
-    let case = Case {
-        x: 0x80,
-        y: 0xff,
-        status,
-    };
+    let case = case_of(List::Divide, 0x80ff, status);
     let left = outcome(sheet, List::Divide, case);
     let file = left.file;
     print_byte(b" K ", file[2]);
@@ -421,6 +476,12 @@ fn main() {
     io::read_full(0, &mut shorter);
     sweep_both(b"multiply", &multiply, List::Multiply);
     sweep_both(b"divide", &divide, List::Divide);
+    sweep(
+        b"divide, dividend of two bytes",
+        &divide,
+        List::DivideLong,
+        0xffffffff,
+    );
     not_promised(&divide, 0);
     not_promised(&divide, 0xffffffff);
     sweep_both(b"table 11-2 without its jump", &table, List::Divide);
