@@ -59,13 +59,19 @@ fn unsigned_quotient_bit(cycle: &Cycle, f: &Partial) -> bool {
 /// with the sign of A.
 pub fn signed_first(cycle: &Cycle) -> Outcome {
     let out_of_b = cycle.sign(&cycle.b);
-    let agree = cycle.sign(&cycle.a) == out_of_b;
+    let mut agree = cycle.sign(&cycle.a) == out_of_b;
+    if cycle.has(Fault::SignedFirstBitInverted) {
+        agree = !agree;
+    }
     let y = up_one(&cycle.b, cycle.selected(), cycle.sign(&cycle.q));
     let mut out = cycle.pass_zn(cycle.merge_b(&y));
     out.q = shift_q(cycle, agree);
     out.status.m = agree;
     out.status.l = out_of_b;
     out.status.s = out_of_b;
+    if cycle.has(Fault::DividendSignFromDivisor) {
+        out.status.s = cycle.sign(&cycle.a);
+    }
     out
 }
 
@@ -253,7 +259,7 @@ pub fn quotient_correct(cycle: &Cycle) -> Outcome {
     let mut out = cycle.pass(cycle.b);
     out.status.c = false;
     out.status.v = false;
-    if correction_wanted(cycle) {
+    if correction_wanted(cycle) && !cycle.has(Fault::QuotientNotCorrected) {
         let mut one = ZEROS;
         one[0] = true;
         let f = correct(cycle, &one, !cycle.status.m);

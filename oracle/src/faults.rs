@@ -44,6 +44,9 @@ faults! {
     UdivlastNComplemented: "UDIVLAST: N is the quotient bit",
     SignExtensionKept: "UDIVSTEP: S from the extension bit, not from F",
     RemcorrAsPrinted: "REMCORR's condition as printed",
+    SignedFirstBitInverted: "SDIVFIRST: the quotient bit inverted",
+    DividendSignFromDivisor: "SDIVFIRST: S from the divisor's sign",
+    QuotientNotCorrected: "QUOCORR passes B",
     DivisorSignFromQAlone: "SDIVLAST2: divisor sign from Q alone",
     MultiStep1ByByteCode: "MPDIVSTEP1: Y cut to the byte code",
     MultiSelectAsInAddc: "MPDIVSTEP2, STEP3: macro select as in ADDC",
@@ -83,7 +86,7 @@ faults! {
 /// At most one planted fault, and a record of which faults were asked about.
 pub struct Faults {
     planted: Option<Fault>,
-    asked: Cell<u64>,
+    asked: Cell<u128>,
 }
 
 impl Faults {

@@ -9,6 +9,7 @@ mod manual;
 mod runs;
 mod sequences;
 mod sheets;
+mod signed;
 
 /// Counts the checks of one group.
 pub struct Group {
@@ -39,7 +40,7 @@ impl Group {
 type Test = (&'static str, fn(&mut Group));
 
 /// Every group, in order.
-const GROUPS: [Test; 24] = [
+const GROUPS: [Test; 30] = [
     ("document 01, examples a to m", examples::lettered),
     ("document 01, the trace example", examples::trace_example),
     ("manual, field pages", manual::field_pages),
@@ -57,7 +58,28 @@ const GROUPS: [Test; 24] = [
         sequences::divide_all_bytes,
     ),
     ("unsigned divide, random wider", sequences::divide_wider),
-    ("signed multiply by the manual", sequences::signed_multiply),
+    (
+        "signed multiply, all one-byte pairs",
+        signed::multiply_all_bytes,
+    ),
+    ("signed multiply, random wider", signed::multiply_wider),
+    (
+        "signed divide, all one-byte pairs",
+        signed::divide_all_bytes,
+    ),
+    ("signed divide, random wider", signed::divide_wider),
+    (
+        "signed divide, random dividends of double length",
+        signed::divide_double,
+    ),
+    (
+        "signed divide, what is told and not promised",
+        signed::divide_told,
+    ),
+    (
+        "planted faults show in the signed lists",
+        signed::faults_show,
+    ),
     (
         "signed divide by the manual, with its jump",
         sequences::signed_divide,

@@ -3,6 +3,7 @@
 use super::bench::{low, Bench, WIDTHS};
 use super::Group;
 use crate::cases::Random;
+use crate::lists::signed;
 use crate::pages::number_of;
 
 /// How many random cases each wider width gets.
@@ -96,17 +97,6 @@ pub fn divide_wider(group: &mut Group) {
     }
 }
 
-/// A value's low bits as a signed number.
-fn signed(value: u32, bytes: u32) -> i64 {
-    let n = 8 * bytes;
-    let value = i64::from(low(value, bytes));
-    if value >> (n - 1) == 1 {
-        value - (1 << n)
-    } else {
-        value
-    }
-}
-
 /// Operand pairs: all of one byte, random ones of the other widths.
 fn pairs(seed: u64) -> Vec<(u8, u32, u32, u32)> {
     let mut random = Random::new(seed);
@@ -122,22 +112,6 @@ fn pairs(seed: u64) -> Vec<(u8, u32, u32, u32)> {
         }
     }
     pairs
-}
-
-/// SMULFIRST and n/2 - 1 SMULSTEP (figure B-1 without the last step).
-pub fn signed_multiply(group: &mut Group) {
-    let step = number_of("SMULSTEP");
-    for (byte_code, bytes, a, m) in pairs(12) {
-        let mut chip = Bench::new(byte_code);
-        chip.q = m;
-        let mut b = chip.word("SMULFIRST", a, 0);
-        for _ in 1..4 * bytes {
-            b = chip.number(step, a, b);
-        }
-        let product = i128::from(signed(b, bytes)) << (8 * bytes) | i128::from(chip.q);
-        let want = i128::from(signed(a, bytes)) * i128::from(signed(m, bytes));
-        group.check(product == want, || format!("{a:X} * {m:X} = {product:X}"));
-    }
 }
 
 /// Table 11-2's microprogram with its jump on Z: quotient and remainder.
@@ -162,13 +136,13 @@ fn table_11_2(byte_code: u8, bytes: u32, dividend: u32, divisor: u32) -> (u32, u
 
 pub fn signed_divide(group: &mut Group) {
     for (byte_code, bytes, dividend, divisor) in pairs(13) {
-        let (x, y) = (signed(dividend, bytes), signed(divisor, bytes));
+        let (x, y) = (signed(dividend, 8 * bytes), signed(divisor, 8 * bytes));
         let overflows = y == -1 && dividend == 1 << (8 * bytes - 1);
         if y == 0 || overflows {
             continue;
         }
         let (q, r) = table_11_2(byte_code, bytes, dividend, divisor);
-        let got = (signed(q, bytes), signed(r, bytes));
+        let got = (signed(q, 8 * bytes), signed(r, 8 * bytes));
         group.check(got == (x / y, x % y), || format!("{x} / {y} = {got:?}"));
     }
 }

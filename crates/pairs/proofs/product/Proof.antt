@@ -1,4 +1,4 @@
--- Two sizes of at most 128 have a product that fits.
+-- Two sizes of at most 32,768 have a product that fits.
 use native.Mathlib.Nat.{mul-le-mul}
 use native.Mathlib.Omega.{arith}
 use borrow.Author.Needs.{needs}
