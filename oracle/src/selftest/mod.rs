@@ -76,10 +76,7 @@ const GROUPS: [Test; 30] = [
         "signed divide, what is told and not promised",
         signed::divide_told,
     ),
-    (
-        "planted faults show in the signed lists",
-        signed::faults_show,
-    ),
+    ("planted faults in the signed lists", signed::faults_show),
     (
         "signed divide by the manual, with its jump",
         sequences::signed_divide,

@@ -209,7 +209,13 @@ pub fn divide_told(group: &mut Group) {
     }
 }
 
+/// Does some one-byte division come out wrong?
+fn misses_a_pair(width: &mut Width) -> bool {
+    bytes().any(|(x, y)| y != 0 && !width.overflows(x, y) && !width.divided(x, y, false))
+}
+
 /// Faults in the signed words: each makes some one-byte pair come out wrong.
+/// The divide list is right whichever way REMCORR and EXTBIT-STAT are read.
 pub fn faults_show(group: &mut Group) {
     use Fault::*;
     let mut width = Width::new(1, 46);
@@ -218,15 +224,19 @@ pub fn faults_show(group: &mut Group) {
         let missed = bytes().any(|(x, y)| !width.multiplied(x, y));
         group.check(missed, || format!("{fault:?} does not show"));
     }
-    for fault in [
-        SignedFirstBitInverted,
-        DividendSignFromDivisor,
-        QuotientNotCorrected,
-        DivisorSignFromQAlone,
+    for (fault, shows) in [
+        (SignedFirstBitInverted, true),
+        (DividendSignFromDivisor, true),
+        (QuotientNotCorrected, true),
+        (DivisorSignFromQAlone, true),
+        (RemcorrAsPrinted, false),
+        (ExtbitStatTouchesZ, false),
     ] {
         width.faults = Faults::plant(fault);
-        let missed =
-            bytes().any(|(x, y)| y != 0 && !width.overflows(x, y) && !width.divided(x, y, false));
-        group.check(missed, || format!("{fault:?} does not show"));
+        group.same(
+            &format!("{fault:?} shows"),
+            misses_a_pair(&mut width),
+            shows,
+        );
     }
 }
