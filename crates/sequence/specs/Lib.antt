@@ -1,4 +1,5 @@
 -- These definitions assume nothing.
+pub mod Signed
 pub mod Sequences
 pub mod Results
 pub mod Decimal

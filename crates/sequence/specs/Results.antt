@@ -1,12 +1,16 @@
 -- What the sequences come to, from the state t before to the state u after, on the low n bits of register a, register b and Q.
 use mathlib.Core.Path.{_≡_}
-use mathlib.Core.Logic.{_≢_}
-use Prim.Native.Nat.{ℕ, _-_, _*_, _/_, _%_, _^_, _<_}
+use mathlib.Core.Logic.{_≢_, _⊎_}
+use Prim.Native.Nat.{ℕ, _+_, _-_, _*_, _/_, _%_, _^_, _<_, max}
 use lib.ListN.{length}
-use Rattle.bits.specs.Bits.{choose, signOf, zeroOf}
+use lib.IntN.{ℤ, pos, _+ℤ_, _*ℤ_, natAbs}
+use lib.Signed.{ltZ, nonNeg, quotZ, remZ}
+use Rattle.bits.specs.Bits.{choose, flag, xor, signOf, zeroOf}
 use Rattle.machine.specs.declared.Status.{Status}
-use Rattle.machine.specs.Status.{withC, withN, withZ, withL, withM, withS}
+use Rattle.machine.specs.Status.{withC, withN, withV, withZ, withL, withM, withS}
 use Rattle.chip.specs.Lists.{State, readAt}
+use Rattle.sequence.specs.Signed.{signed, signedLong}
+use Rattle.sequence.specs.Sequences.{Registers}
 
 -- the selected bytes of a register, and of Q
 abbrev pub register : ℕ → ℕ → State → ℕ
@@ -60,3 +64,72 @@ pub record Divided (n a b : ℕ) (t u : State) : Type 0 where
   pub below : register n b u < register n a t
   pub rest : Untouched n b t u
   pub status : u .core .status ≡ dividedStatus n b t u
+
+-- ---- signed multiply
+-- register b and Q hold the two halves of the exact product of register a and Q, all three in two's complement. M is the sign bit of the multiplier;
+-- the rest of the status register is as before.
+pub record SignedMultiplied (n a b : ℕ) (t u : State) : Type 0 where
+  pub product : signedLong n (register n b u) (lowQ n u) ≡ signed n (readAt (t .file) a) *ℤ signed n (t .core .q)
+  pub rest : Untouched n b t u
+  pub status : u .core .status ≡ withM (signOf n (t .core .q)) (t .core .status)
+
+-- ---- signed divide
+-- a register as a signed number
+abbrev pub signedIn : ℕ → ℕ → State → ℤ
+signedIn n r t = signed n (readAt (t .file) r)
+
+-- the dividend of 2 n bits: its high half in the remainder's register, its low half in Q
+abbrev pub longDividend : ℕ → Registers → State → ℤ
+longDividend n r t = signedLong n (register n (r .R) t) (lowQ n t)
+
+-- the rest of the file and of Q is as before: every register but those of quotient and remainder, the number of registers, and the unselected bytes
+-- of those two and of Q
+pub record Apart (n : ℕ) (r : Registers) (t u : State) : Type 0 where
+  pub registers : length (u .file) ≡ length (t .file)
+  pub others : (k : ℕ) → k ≢ r .R → k ≢ r .K → readAt (u .file) k ≡ readAt (t .file) k
+  pub above-r : readAt (u .file) (r .R) / 2 ^ n ≡ readAt (t .file) (r .R) / 2 ^ n
+  pub above-k : readAt (u .file) (r .K) / 2 ^ n ≡ readAt (t .file) (r .K) / 2 ^ n
+  pub above-q : u .core .q / 2 ^ n ≡ t .core .q / 2 ^ n
+
+-- 1 where an integer is negative
+abbrev pub negative : ℤ → ℕ
+negative z = flag (ltZ z (pos 0))
+
+-- 1 where the quotient is odd, and where the remainder is zero
+abbrev pub oddK : ℕ → Registers → State → ℕ
+oddK n r u = register n (r .K) u % 2
+
+abbrev pub zeroR : ℕ → Registers → State → ℕ
+zeroR n r u = zeroOf n (readAt (u .file) (r .R))
+
+-- Both corrections are made where the quotient is even, and there alone. Q keeps the quotient k as it was before: one more where M is 0, one less
+-- where M is 1.
+abbrev pub uncorrected : ℕ → ℕ → ℕ → ℕ
+uncorrected n m k = choose (k % 2) ((k + choose m 1 (2 ^ n - 1)) % 2 ^ n) k
+
+-- The status register afterwards, X being the dividend. S is 1 where the dividend is negative. C is 1 where the correction of the remainder carried;
+-- N, Z and M are those by which the corrections were made. Of V, which QUOCORR leaves, and of L, which is the lowest bit of the remainder before its
+-- correction, nothing is said: they are of no use afterwards. The nibble bits, position and width are as before.
+abbrev pub signedDividedStatus : ℕ → ℤ → Registers → State → State → Status
+signedDividedStatus n X r t u =
+    let odd : ℕ = oddK n r u in
+    let zero : ℕ = zeroR n r u in
+    withC (choose odd (choose (negative X) 1 zero) 0)
+    (withN (choose (negative X) (1 - odd) (max odd zero))
+    (withZ (choose (negative X) 0 (choose odd zero 0))
+    (withM (xor (signOf n (readAt (t .file) (r .D))) (choose (negative X) odd (1 - xor odd zero)))
+    (withS (negative X)
+    (withV (u .core .status .v)
+    (withL (u .core .status .l) (t .core .status)))))))
+
+-- Register K holds the quotient of X by register D, cut towards zero, and register R the remainder, all in two's complement: quotient times divisor
+-- plus remainder is the dividend, and the remainder is smaller in size than the divisor, and zero or of the dividend's sign.
+pub record SignedDivided (n : ℕ) (X : ℤ) (r : Registers) (t u : State) : Type 0 where
+  pub quotient : signedIn n (r .K) u ≡ quotZ X (signedIn n (r .D) t)
+  pub remainder : signedIn n (r .R) u ≡ remZ X (signedIn n (r .D) t)
+  pub whole : signedIn n (r .K) u *ℤ signedIn n (r .D) t +ℤ signedIn n (r .R) u ≡ X
+  pub smaller : natAbs (signedIn n (r .R) u) < natAbs (signedIn n (r .D) t)
+  pub sign : (signedIn n (r .R) u ≡ pos 0) ⊎ (nonNeg (signedIn n (r .R) u) ≡ nonNeg X)
+  pub rest : Apart n r t u
+  pub q : lowQ n u ≡ uncorrected n (u .core .status .m) (register n (r .K) u)
+  pub status : u .core .status ≡ signedDividedStatus n X r t u

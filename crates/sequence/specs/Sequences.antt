@@ -1,5 +1,5 @@
 -- The sequences of words that must come out exact, as lists for w bytes, w from 1 to 4.
-use mathlib.Core.List.{List, [], _∷_}
+use mathlib.Core.List.{List, [], _∷_, _++_}
 use Prim.Native.Nat.{ℕ, zero, suc, _-_, _*_, _/_, _%_}
 use Rattle.chip.specs.declared.Word.{Word}
 
@@ -58,3 +58,79 @@ divideOpcodes w = 0x4f ∷ times (bitsIn w - 1) 0x54 (0x55 ∷ 0x58 ∷ [])
 
 abbrev pub divideWords : ℕ → ℕ → ℕ → (ℕ → Idle) → List Word
 divideWords w a b idle = wordsOf (codeOf w) a b (divideOpcodes w) idle
+
+-- ---- signed
+-- one SMULFIRST, n / 2 - 1 SMULSTEP; there is no last word
+abbrev pub signedMultiplyOpcodes : ℕ → List ℕ
+signedMultiplyOpcodes w = 0x5f ∷ times (bitsIn w / 2 - 1) 0x5e []
+
+abbrev pub signedMultiplyWords : ℕ → ℕ → ℕ → (ℕ → Idle) → List Word
+signedMultiplyWords w a b idle = wordsOf (codeOf w) a b (signedMultiplyOpcodes w) idle
+
+-- the registers of a signed division: divisor, remainder, quotient, and one that is zero, which may be that of the quotient
+pub record Registers : Type 0 where
+  pub D : ℕ
+  pub R : ℕ
+  pub K : ℕ
+  pub O : ℕ
+
+-- a word that writes nothing, and two of the status register alone, at a place in it
+abbrev pub looking : ℕ → ℕ → ℕ → ℕ → Idle → Word
+looking code a b opcode i =
+    record {
+      opcode = opcode;
+      code = code;
+      position = i .position;
+      width = i .width;
+      a = a;
+      b = b;
+      y = 0;
+      write = 0;
+      select = 0;
+      carry = i .carry;
+      link = i .link;
+      borrow = 0;
+    }
+
+abbrev pub onStatus : ℕ → ℕ → ℕ → ℕ → Idle → Word
+onStatus place a b opcode i = looking 0 a b opcode (record { position = place; width = i .width; carry = i .carry; link = i .link })
+
+-- what stands in the words after SDIVLAST1 where they do not look: registers for A and B besides the idle fields
+pub record Unread : Type 0 where
+  pub a : ℕ
+  pub b : ℕ
+  pub idle : Idle
+
+-- one SDIVFIRST, n - 1 SDIVSTEP, one SDIVLAST1, with the divisor at A and the remainder at B
+abbrev pub signedDivideOpcodes : ℕ → List ℕ
+signedDivideOpcodes w = 0x4e ∷ times (bitsIn w - 1) 0x50 (0x51 ∷ [])
+
+-- Both corrections, where table 11-2 jumps past them. They are made where Z EXOR N EXOR S is 1, which misses a zero remainder of a negative
+-- dividend: so N is set there first. Then the quotient, from Q, is corrected in a register of its own, and the remainder.
+abbrev pub correctionWords : ℕ → Registers → (ℕ → Unread) → List Word
+correctionWords w r free =
+    -- SDIVLAST2 with zero for the divisor: Z is 1 where the dividend is negative and the remainder zero
+    looking (codeOf w) (r .O) (r .R) 0x5a (free 0 .idle)
+    -- RSTBIT-STAT: V is 0. EXTBIT-STAT, SIGNED LE: L is 1 where N or Z is
+    ∷ onStatus 18 (free 1 .a) (free 1 .b) 0x6d (free 1 .idle)
+    ∷ onStatus 15 (free 2 .a) (free 2 .b) 0x7e (free 2 .idle)
+    -- DN1-LF-B: N is L
+    ∷ looking (codeOf w) (free 3 .a) (r .R) 0x29 (free 3 .idle)
+    -- SDIVLAST2: Z is 1 in the special case of its page
+    ∷ looking (codeOf w) (r .D) (r .R) 0x5a (free 4 .idle)
+    -- PASS-Q, QUOCORR, REMCORR
+    ∷ wordOf (codeOf w) (free 5 .a) (r .K) 0x05 (free 5 .idle)
+    ∷ wordOf (codeOf w) (free 6 .a) (r .K) 0x59 (free 6 .idle)
+    ∷ wordOf (codeOf w) (r .D) (r .R) 0x58 (free 7 .idle)
+    ∷ []
+
+-- a dividend of 2 n bits, its high half in the remainder's register and its low half in Q
+abbrev pub signedDivideWords : ℕ → Registers → (ℕ → Idle) → (ℕ → Unread) → List Word
+signedDivideWords w r idle free = wordsOf (codeOf w) (r .D) (r .R) (signedDivideOpcodes w) idle ++ correctionWords w r free
+
+-- a dividend of n bits in register x: LOADQ-A takes it to Q, and SIGN its sign to the remainder's register
+abbrev pub shortDivideWords : ℕ → ℕ → Registers → Unread → Unread → (ℕ → Idle) → (ℕ → Unread) → List Word
+shortDivideWords w x r load sign idle free =
+    looking (codeOf w) x (load .b) 0x06 (load .idle)
+    ∷ wordOf (codeOf w) (sign .a) (r .R) 0x3d (sign .idle)
+    ∷ signedDivideWords w r idle free
