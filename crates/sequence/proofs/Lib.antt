@@ -1,5 +1,6 @@
 -- These proofs assume nothing.
 pub mod Counterexamples
+pub mod Integers
 pub mod Lists
 pub mod MultiplyNumbers
 pub mod Multiply
