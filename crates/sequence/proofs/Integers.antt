@@ -1,16 +1,18 @@
 -- The integers as differences of naturals: the one place where their two cases are opened. Equality, sum, product and order of integers come down
 -- to those of the naturals that they are differences of.
-use mathlib.Core.Path.{_≡_, refl, sym, ap, _∙_, subst}
+use mathlib.Core.Path.{_≡_, refl, sym, ap, ap₂, _∙_, subst}
 use mathlib.Core.Bool.{Bool, true, false, cond}
-use Prim.Native.Nat.{ℕ, zero, suc, _+_, _-_, _*_, _%_, _^_, _≤_}
-use native.Mathlib.Nat.{mod-mod, add-mul-mod-self-right}
+use Prim.Native.Nat.{ℕ, zero, suc, _+_, _-_, _*_, _/_, _%_, _^_, _≤_}
+use native.Mathlib.Nat.{mod-lt, mod-mod, mod-eq-of-lt, mul-assoc, add-mul-mod-self-right}
 use native.Mathlib.Omega.{arith}
 use lib.Dec.{ltb}
+use lib.Arith.{digits-lt}
+use lib.Pow.{pow-pos, pow-add, shr-shr, high, field}
 use lib.IntN.{ℤ, pos, negsuc, negℤ, subℕ, _+ℤ_, _*ℤ_}
 use lib.Signed.{ltZ}
 use borrow.Author.Tests.{ltb-true, ltb-false, lt-ltb, le-ltb}
-use Rattle.bits.specs.Bits.{signOf}
-use Rattle.sequence.specs.Signed.{signed}
+use Rattle.bits.specs.Bits.{bitOf, signOf}
+use Rattle.sequence.specs.Signed.{signed, signedLong}
 
 -- z is a less b
 data Difference (a b : ℕ) : ℤ → Type 0 where
@@ -54,7 +56,7 @@ summed (below j p) (above k q) = moved _ _ (sub-is k (suc j)) (omega arith)
 summed (below j p) (below k q) = below (suc (j + k)) (omega arith)
 
 -- two differences multiplied out
-crossed : (a b c d j k : ℕ) → a ≡ b + j → c ≡ d + k → a * c + b * d ≡ a * d + b * c + j * k
+pub crossed : (a b c d j k : ℕ) → a ≡ b + j → c ≡ d + k → a * c + b * d ≡ a * d + b * c + j * k
 crossed a b c d j k p q = omega (arith, ap (λ (x : ℕ). x * c) p, ap (λ (x : ℕ). x * d) p, ap (λ (x : ℕ). j * x) q)
 
 multiplied : {a b c d : ℕ} {y z : ℤ} → Difference a b y → Difference c d z → Difference (a * c + b * d) (a * d + b * c) (y *ℤ z)
@@ -94,9 +96,35 @@ sub-product a b c d = same (multiplied (sub-is a b) (sub-is c d)) (sub-is (a * c
 pub sub-less : (a b c d : ℕ) → ltZ (subℕ a b) (subℕ c d) ≡ ltb (a + d) (c + b)
 sub-less a b c d = ordered (sub-is a b) (sub-is c d)
 
+-- ---- signed numbers
 -- two results with one signed value are one
 pub signed-once : (n x y : ℕ) → 1 ≤ n → signed n x ≡ signed n y → x % 2 ^ n ≡ y % 2 ^ n
 signed-once n x y h e = sym (cut x (signOf n y)) ∙ ap (λ (v : ℕ). v % 2 ^ n) (sub-once _ _ _ _ e) ∙ cut y (signOf n x)
   where
     cut : (v s : ℕ) → (v % 2 ^ n + s * 2 ^ n) % 2 ^ n ≡ v % 2 ^ n
     cut v s = add-mul-mod-self-right (v % 2 ^ n) s (2 ^ n) ∙ mod-mod v (2 ^ n)
+
+-- the sign bit looks at the n bits alone
+pub sign-low : (n x : ℕ) → 1 ≤ n → signOf n (x % 2 ^ n) ≡ signOf n x
+sign-low n x h =
+    let e : n ≡ 1 + (n - 1) = omega arith in
+    ap (λ (k : ℕ). x % 2 ^ k / 2 ^ (n - 1) % 2) e ∙ ap (λ (v : ℕ). v % 2) (field x 1 (n - 1)) ∙ mod-mod (x / 2 ^ (n - 1)) 2
+
+-- a number of 2 n bits by its two halves: its sign bit is that of the high one
+pub signed-long : (n x y : ℕ) → 1 ≤ n → signedLong n (x % 2 ^ n) (y % 2 ^ n) ≡ subℕ (x % 2 ^ n * 2 ^ n + y % 2 ^ n) (signOf n x * 2 ^ n * 2 ^ n)
+signed-long n x y h = ap₂ subℕ whole-bits (ap₂ (λ (s p : ℕ). s * p) sign power ∙ sym (mul-assoc (signOf n x) (2 ^ n) (2 ^ n)))
+  where
+    power : 2 ^ (2 * n) ≡ 2 ^ n * 2 ^ n
+    power = ap (λ (k : ℕ). 2 ^ k) (omega arith) ∙ pow-add 2 n n
+
+    whole-bits : (x % 2 ^ n * 2 ^ n + y % 2 ^ n) % 2 ^ (2 * n) ≡ x % 2 ^ n * 2 ^ n + y % 2 ^ n
+    whole-bits =
+        ap (λ (p : ℕ). (x % 2 ^ n * 2 ^ n + y % 2 ^ n) % p) power
+        ∙ mod-eq-of-lt (digits-lt (mod-lt x (pow-pos n)) (mod-lt y (pow-pos n)))
+
+    sign : signOf (2 * n) (x % 2 ^ n * 2 ^ n + y % 2 ^ n) ≡ signOf n x
+    sign =
+        ap (λ (k : ℕ). (x % 2 ^ n * 2 ^ n + y % 2 ^ n) / 2 ^ k % 2) (omega arith)
+        ∙ ap (λ (v : ℕ). v % 2) (sym (shr-shr (x % 2 ^ n * 2 ^ n + y % 2 ^ n) n (n - 1)))
+        ∙ ap (bitOf (n - 1)) (high (x % 2 ^ n) n (mod-lt y (pow-pos n)))
+        ∙ sign-low n x h
