@@ -14,7 +14,7 @@ use Rattle.multiply.specs.Multiply.{firstRow, stepRow, firstPartial, partial, f
 use Rattle.divide.specs.Divide.{UDIVFIRST, UDIVSTEP, UDIVLAST, REMCORR, QUOCORR}
 use Rattle.chip.specs.Glossary.{performOf}
 use Rattle.chip.specs.Lists.{State, state, readAt, storeAt, stepOf, execs}
-use Rattle.sequence.specs.Sequences.{wordsOf, times, bitsIn, codeOf, multiplyOpcodes, divideOpcodes}
+use Rattle.sequence.specs.Sequences.{wordsOf, times, bitsIn, codeOf, multiplyOpcodes, signedMultiplyOpcodes, divideOpcodes}
 use Rattle.sequence.specs.Results.{multipliedStatus, dividedStatus}
 use Rattle.sequence.specs.Decimal.{value, Side.at-A, Fields, Layout, decimalWords, summedStatus}
 
@@ -60,6 +60,27 @@ pub status-multiplied :
     (multiplied .core .status ≡ multipliedStatus 8 1 (given 0x01 0x80) multiplied)
 unfolding performOf stepOf execs readAt storeAt spreadOut loaded zeroOf merged firstRow stepRow firstPartial partial firstStep step UMULLAST wordsOf times
 status-multiplied = (refl, refl, refl)
+
+-- ---- signed multiply: FF by FF, -1 by -1, is 0001, and 80 by 80, -128 by -128, is 4000
+pub signed-multiply-leaves : (leaves (signedMultiplyOpcodes 1) 0xff 0xff ≡ (0x00, 0x01)) × (leaves (signedMultiplyOpcodes 1) 0x80 0x80 ≡ (0x40, 0x00))
+unfolding performOf stepOf execs readAt storeAt spreadOut loaded merged firstRow stepRow firstPartial partial firstStep step wordsOf times
+signed-multiply-leaves = (refl, refl)
+
+-- one SMULSTEP less: 00 and 02
+abbrev oneSignedStepShort : List ℕ
+oneSignedStepShort = 0x5f ∷ times (bitsIn 1 / 2 - 2) 0x5e []
+
+pub one-signed-step-short-fails : leaves oneSignedStepShort 0x80 0x80 ≢ (0x40, 0x00)
+unfolding performOf stepOf execs readAt storeAt spreadOut loaded merged firstRow stepRow firstPartial partial firstStep step wordsOf times
+one-signed-step-short-fails e = let h : _≡_ {A = ℕ} 0x00 0x40 = ap (λ (p : ℕ × ℕ). p .0) e in absurd (omega arith)
+
+-- UMULSTEP in the place of SMULSTEP, which extends A with zeros: C0 and 00
+abbrev unsignedSteps : List ℕ
+unsignedSteps = 0x5f ∷ times (bitsIn 1 / 2 - 1) 0x5c []
+
+pub unsigned-steps-fail : leaves unsignedSteps 0x80 0x80 ≢ (0x40, 0x00)
+unfolding performOf stepOf execs readAt storeAt spreadOut loaded merged firstRow stepRow firstPartial partial firstStep step wordsOf times
+unsigned-steps-fail e = let h : _≡_ {A = ℕ} 0xc0 0x40 = ap (λ (p : ℕ × ℕ). p .0) e in absurd (omega arith)
 
 -- ---- divide: FF by 10 is 0F with remainder 0F, example k, and EF by 10 is 0E with remainder 0F
 pub divide-leaves : leaves (divideOpcodes 1) 0x10 0xff ≡ (0x0f, 0x0f)

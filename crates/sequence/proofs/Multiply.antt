@@ -16,7 +16,7 @@ use Rattle.machine.specs.declared.Inputs.{Inputs}
 use Rattle.machine.specs.declared.Outputs.{Outputs}
 use Rattle.machine.specs.Status.{withZ, withM}
 use Rattle.machine.specs.Inputs.{bitsOf}
-use Rattle.multiply.specs.Multiply.{zeroExtended, signExtended, firstPartial, partial, shiftedBy2, firstStep, step, UMULLAST}
+use Rattle.multiply.specs.Multiply.{zeroExtended, signExtended, partial, shiftedBy2, firstStep, step, UMULLAST}
 use Rattle.multiply.proofs.Bounds.{extra, quarter, room, same-mod}
 use Rattle.multiply.proofs.Rows.{first-is, picked}
 use Rattle.chip.specs.Glossary.{performOf}
@@ -26,23 +26,23 @@ use Rattle.sequence.specs.Sequences.{Idle, bitsIn, codeOf, wordOf, words
 use Rattle.sequence.specs.Results.{register, lowQ, Untouched, Multiplied, SignedMultiplied}
 use Rattle.sequence.proofs.Integers.{signed-long}
 use Rattle.sequence.proofs.Lists.{Work, view, before, after, Acts, acts-from, Reached, start, next, repeated, in-file, word-status, word-y, merged-low, merged-high, zero-low, bits-of-bytes, low-digit, second-bit, sign-top}
-use Rattle.sequence.proofs.MultiplyNumbers.{top, off, partialOf, shifted, mulStep, begun, mulLast, Multiplicand, Left, begin-left, step-left, Ended, ended, ended-product, Product, last-product, pow4}
+use Rattle.sequence.proofs.MultiplyNumbers.{top, off, partialOf, shifted, mulStep, begun, mulLast, Sized, Left, begin-left, step-left, Ended, ended, ended-product, Product, last-product, pow4}
 
 -- the number of selected bits is from 2 to 32
 abbrev Fits : ℕ → ℕ → Type 0
 Fits n A = (2 ≤ n) × (n ≤ 32)
 
 -- ---- F*
--- A* of a multiplicand
+-- the selected bits A extended across the two extra bits, by a sign
 abbrev star : ℕ → ℕ → ℕ → ℕ
 star W A sign = A + 3 * (sign * W)
 
-star-lt : (W A sign : ℕ) → Multiplicand W A sign → star W A sign < 4 * W
+star-lt : (W A sign : ℕ) → Sized W A sign → star W A sign < 4 * W
 star-lt W A sign a = omega (arith, mul-le-mul-right W (a .one))
 
 -- a number of n bits in two's complement, and sign extended
-signed-fits : (n x : ℕ) → 1 ≤ n → Multiplicand (2 ^ n) (x % 2 ^ n) (top (2 ^ n) (x % 2 ^ n))
-signed-fits n x h =
+signed-sized : (n x : ℕ) → 1 ≤ n → Sized (2 ^ n) (x % 2 ^ n) (top (2 ^ n) (x % 2 ^ n))
+signed-sized n x h =
     let l : x % 2 ^ n < 2 ^ n = mod-lt x (pow-pos n) in
     let f : top (2 ^ n) (x % 2 ^ n) < 2 = subst (λ (v : ℕ). v < 2) (sign-top n x h) (bit-lt (n - 1) x) in
     record { bits = l; one = omega arith; near = omega (arith, div-mul-le-self (2 * (x % 2 ^ n)) (2 ^ n)) }
@@ -53,8 +53,8 @@ signed-star n x h = ap (λ (f : ℕ). x % 2 ^ n + f * (3 * 2 ^ n)) (sign-top n x
     turned : (W x f : ℕ) → x + f * (3 * W) ≡ x + 3 * (f * W)
     turned W x f = omega arith
 
-zero-fits : (W : ℕ) → 0 < W → Multiplicand W 0 (top W 0)
-zero-fits W h = subst (Multiplicand W 0) (sym (zero-div W)) (record { bits = h; one = omega arith; near = omega arith })
+zero-sized : (W : ℕ) → 0 < W → Sized W 0 (top W 0)
+zero-sized W h = subst (Sized W 0) (sym (zero-div W)) (record { bits = h; one = omega arith; near = omega arith })
 
 -- F* of the table; the law of its rows takes what is to be taken off from another multiple of 4 W
 partial-is : (n a b q m : ℕ) → 2 ≤ n → n ≤ 32 → m < 2 → a < 4 * 2 ^ n → b < 4 * 2 ^ n → partial n a b q m ≡ partialOf (2 ^ n) a b (q % 2 ^ n) m
@@ -89,18 +89,17 @@ shift-sees x f h hf = λ i. record { B = eB i; Q = eQ i; M = eM i; S = x .status
     eM : bitOf 1 (x .q) ≡ x .q % 2 ^ bitsOf x / 2 % 2
     eM = second-bit (bitsOf x) (x .q) h
 
--- an opcode that leaves F* shifted: what it does is seen in F*
-module _ (steady : Status → Status) (keeps : (m : ℕ) (s : Status) → steady (withM m s) ≡ steady s) where
-  shift-acts :
-      (opcode n A : ℕ) (fine : Work → Type 0) (f : ℕ → ℕ → Work → Work) (F : Inputs → ℕ) → Fits n A → ((x : Inputs) → performOf opcode x ≡ shiftedBy2 x (F x)) →
-      ((x : Inputs) → Fits (bitsOf x) (x .a) → fine (before (bitsOf x) x) → after (bitsOf x) (shiftedBy2 x (F x)) ≡ f (2 ^ bitsOf x) (x .a % 2 ^ bitsOf x) (before (bitsOf x) x)) →
-      Acts steady n A opcode fine (f (2 ^ n) (A % 2 ^ n))
-  shift-acts opcode n A fine f F h does sees =
-      acts-from steady n A opcode f Fits fine h
-      (λ x h g. ap (after (bitsOf x)) (does x) ∙ sees x h g)
-      (λ x. ap (λ (o : Outputs). o .y / 2 ^ bitsOf x) (does x) ∙ merged-high (bitsOf x) _ (x .b))
-      (λ x. ap (λ (o : Outputs). o .q / 2 ^ bitsOf x) (does x) ∙ merged-high (bitsOf x) _ (x .q))
-      (λ x. ap (λ (o : Outputs). steady (o .status)) (does x) ∙ keeps _ _)
+-- an opcode that leaves F* shifted: what it does is seen in F*; of the status register it changes M alone
+shift-acts :
+    (opcode n A : ℕ) (fine : Work → Type 0) (f : ℕ → ℕ → Work → Work) (F : Inputs → ℕ) → Fits n A → ((x : Inputs) → performOf opcode x ≡ shiftedBy2 x (F x)) →
+    ((x : Inputs) → Fits (bitsOf x) (x .a) → fine (before (bitsOf x) x) → after (bitsOf x) (shiftedBy2 x (F x)) ≡ f (2 ^ bitsOf x) (x .a % 2 ^ bitsOf x) (before (bitsOf x) x)) →
+    Acts (withM 0) n A opcode fine (f (2 ^ n) (A % 2 ^ n))
+shift-acts opcode n A fine f F h does sees =
+    acts-from (withM 0) n A opcode f Fits fine h
+    (λ x h g. ap (after (bitsOf x)) (does x) ∙ sees x h g)
+    (λ x. ap (λ (o : Outputs). o .y / 2 ^ bitsOf x) (does x) ∙ merged-high (bitsOf x) _ (x .b))
+    (λ x. ap (λ (o : Outputs). o .q / 2 ^ bitsOf x) (does x) ∙ merged-high (bitsOf x) _ (x .q))
+    (λ x. ap (λ (o : Outputs). withM 0 (o .status)) (does x))
 
 -- ---- the words
 -- the words of an unsigned and of a signed multiply differ in their opcodes and in how A is extended
@@ -111,7 +110,7 @@ record Kind : Type 0 where
   extended : ℕ → ℕ → ℕ
   first-does : (x : Inputs) → performOf first x ≡ firstStep x (extended (bitsOf x) (x .a))
   inner-does : (x : Inputs) → performOf inner x ≡ step x (extended (bitsOf x) (x .a))
-  fits : (n a : ℕ) → 1 ≤ n → Multiplicand (2 ^ n) (a % 2 ^ n) (sign (2 ^ n) (a % 2 ^ n))
+  sized : (n a : ℕ) → 1 ≤ n → Sized (2 ^ n) (a % 2 ^ n) (sign (2 ^ n) (a % 2 ^ n))
   extends : (n a : ℕ) → 1 ≤ n → extended n a ≡ star (2 ^ n) (a % 2 ^ n) (sign (2 ^ n) (a % 2 ^ n))
 
 abbrev unsigned : Kind
@@ -124,7 +123,7 @@ unsigned =
       extended = zeroExtended;
       first-does = λ x. refl;
       inner-does = λ x. refl;
-      fits = λ n a h. record { bits = mod-lt a (pow-pos n); one = omega arith; near = omega (arith, pow-pos n) };
+      sized = λ n a h. record { bits = mod-lt a (pow-pos n); one = omega arith; near = omega (arith, pow-pos n) };
       extends = λ n a h. omega arith;
     }
 
@@ -138,11 +137,11 @@ twosComplement =
       extended = signExtended;
       first-does = λ x. refl;
       inner-does = λ x. refl;
-      fits = signed-fits;
+      sized = signed-sized;
       extends = signed-star;
     }
 
-module _ (kind : Kind) (steady : Status → Status) (keeps : (m : ℕ) (s : Status) → steady (withM m s) ≡ steady s) where
+module _ (kind : Kind) where
   -- F*, from a B* and an M
   abbrev partialIn : Inputs → ℕ → ℕ → ℕ
   partialIn x b m = partial (bitsOf x) (kind .extended (bitsOf x) (x .a)) b (x .q) m
@@ -152,26 +151,26 @@ module _ (kind : Kind) (steady : Status → Status) (keeps : (m : ℕ) (s : Stat
   stepped W A s = mulStep W (star W A (kind .sign W A)) s
 
   -- from the selected bits B and their B*
-  partial-sees : (x : Inputs) → Fits (bitsOf x) (x .a) → (B b m : ℕ) → Multiplicand (2 ^ bitsOf x) B (top (2 ^ bitsOf x) B) → b ≡ star (2 ^ bitsOf x) B (top (2 ^ bitsOf x) B) → m < 2
+  partial-sees : (x : Inputs) → Fits (bitsOf x) (x .a) → (B b m : ℕ) → Sized (2 ^ bitsOf x) B (top (2 ^ bitsOf x) B) → b ≡ star (2 ^ bitsOf x) B (top (2 ^ bitsOf x) B) → m < 2
       → after (bitsOf x) (shiftedBy2 x (partialIn x b m)) ≡ stepped (2 ^ bitsOf x) (x .a % 2 ^ bitsOf x) (record { B = B; Q = x .q % 2 ^ bitsOf x; M = m; S = x .status .s })
   unfolding mulStep
-  partial-sees x h B b m fits e hm =
+  partial-sees x h B b m sized e hm =
       ap (λ (F : ℕ). after (bitsOf x) (shiftedBy2 x F))
       (ap₂ (λ (u v : ℕ). partial (bitsOf x) u v (x .q) m) (kind .extends (bitsOf x) (x .a) (omega arith)) e
-      ∙ partial-is (bitsOf x) _ _ (x .q) m (h .0) (h .1) hm (star-lt _ _ _ (kind .fits (bitsOf x) (x .a) (omega arith))) (star-lt _ _ _ fits))
+      ∙ partial-is (bitsOf x) _ _ (x .q) m (h .0) (h .1) hm (star-lt _ _ _ (kind .sized (bitsOf x) (x .a) (omega arith))) (star-lt _ _ _ sized))
       ∙ shift-sees x _ (h .0) (mod-lt _ (omega (arith, pow-pos (bitsOf x))))
 
-  inner-acts : (n A : ℕ) → Fits n A → Acts steady n A (kind .inner) (λ s. s .M < 2) (stepped (2 ^ n) (A % 2 ^ n))
+  inner-acts : (n A : ℕ) → Fits n A → Acts (withM 0) n A (kind .inner) (λ s. s .M < 2) (stepped (2 ^ n) (A % 2 ^ n))
   unfolding step
   inner-acts n A h =
-      shift-acts steady keeps (kind .inner) n A (λ s. s .M < 2) stepped (λ x. partialIn x (signExtended (bitsOf x) (x .b)) (x .status .m)) h (kind .inner-does)
-      (λ x h g. partial-sees x h _ _ _ (signed-fits (bitsOf x) (x .b) (omega arith)) (signed-star (bitsOf x) (x .b) (omega arith)) g)
+      shift-acts (kind .inner) n A (λ s. s .M < 2) stepped (λ x. partialIn x (signExtended (bitsOf x) (x .b)) (x .status .m)) h (kind .inner-does)
+      (λ x h g. partial-sees x h _ _ _ (signed-sized (bitsOf x) (x .b) (omega arith)) (signed-star (bitsOf x) (x .b) (omega arith)) g)
 
-  first-acts : (n A : ℕ) → Fits n A → Acts steady n A (kind .first) (λ s. Unit) (λ s. stepped (2 ^ n) (A % 2 ^ n) (begun s))
+  first-acts : (n A : ℕ) → Fits n A → Acts (withM 0) n A (kind .first) (λ s. Unit) (λ s. stepped (2 ^ n) (A % 2 ^ n) (begun s))
   unfolding firstStep
   first-acts n A h =
-      shift-acts steady keeps (kind .first) n A (λ s. Unit) (λ W A s. stepped W A (begun s)) (λ x. partialIn x 0 0) h (λ x. kind .first-does x ∙ ap (shiftedBy2 x) (first-is (bitsOf x) _ (x .q)))
-      (λ x h g. partial-sees x h 0 0 0 (zero-fits (2 ^ bitsOf x) (pow-pos (bitsOf x))) (sym (ap (star (2 ^ bitsOf x) 0) (zero-div (2 ^ bitsOf x)) ∙ omega arith)) (omega arith))
+      shift-acts (kind .first) n A (λ s. Unit) (λ W A s. stepped W A (begun s)) (λ x. partialIn x 0 0) h (λ x. kind .first-does x ∙ ap (shiftedBy2 x) (first-is (bitsOf x) _ (x .q)))
+      (λ x h g. partial-sees x h 0 0 0 (zero-sized (2 ^ bitsOf x) (pow-pos (bitsOf x))) (sym (ap (star (2 ^ bitsOf x) 0) (zero-div (2 ^ bitsOf x)) ∙ omega arith)) (omega arith))
 
 -- ---- UMULLAST
 -- it changes Z, where the other words change M alone
@@ -195,39 +194,38 @@ unfolding performOf UMULLAST
 last-z x = zero-low (bitsOf x) _ _ (sym (merged-low (bitsOf x) _ (x .b)))
 
 -- ---- the lists
-module _ (kind : Kind) (steady : Status → Status) (keeps : (m : ℕ) (s : Status) → steady (withM m s) ≡ steady s)
-    (w a b : ℕ) (t : State) (h1 : 1 ≤ w) (h4 : w ≤ 4) (ab : a ≢ b) (hb : b < length (t .file)) where
+module _ (kind : Kind) (w a b : ℕ) (t : State) (h1 : 1 ≤ w) (h4 : w ≤ 4) (ab : a ≢ b) (hb : b < length (t .file)) where
+  abbrev W : ℕ
+  W = 2 ^ bitsIn w
+
   abbrev A : ℕ
-  A = readAt (t .file) a % 2 ^ bitsIn w
+  A = readAt (t .file) a % W
 
   abbrev sign : ℕ
-  sign = kind .sign (2 ^ bitsIn w) A
+  sign = kind .sign W A
 
   abbrev Q : ℕ
-  Q = t .core .q % 2 ^ bitsIn w
-
-  -- a state on the way
-  abbrev On : (Work → Type 0) → State → Type 0
-  On P u = Reached steady (bitsIn w) (codeOf w) a b (readAt (t .file) a) (bits-of-bytes w h1 h4) ab t refl hb P u
+  Q = t .core .q % W
 
   -- the first word and all the steps, and then the others
-  all-steps : (opcodes : List ℕ) (End : State → Type 0) → ((idle : ℕ → Idle) (u : State) → On (Left (2 ^ bitsIn w) A sign Q 0) u → End (execs (wordsOf (codeOf w) a b opcodes idle) u))
-      → (idle : ℕ → Idle) → End (execs (wordsOf (codeOf w) a b (kind .first ∷ times (bitsIn w / 2 - 1) (kind .inner) opcodes) idle) t)
+  all-steps :
+      (opcodes : List ℕ) (End : State → Type 0) →
+      ((idle : ℕ → Idle) (u : State) →
+      Reached (withM 0) (bitsIn w) (codeOf w) a b (readAt (t .file) a) (bits-of-bytes w h1 h4) ab t refl hb (Left W A sign Q 0) u → End (execs (wordsOf (codeOf w) a b opcodes idle) u)) →
+      (idle : ℕ → Idle) → End (execs (wordsOf (codeOf w) a b (kind .first ∷ times (bitsIn w / 2 - 1) (kind .inner) opcodes) idle) t)
   unfolding wordsOf execs
   all-steps opcodes End end idle =
-      repeated steady n code a b A₀ bits ab t refl hb (kind .inner) (λ s. s .M < 2) (stepped kind steady keeps W A) (inner-acts kind steady keeps n A₀ fit) (Left W A sign Q) (λ k s l. l .flag) (step-left W A sign Q multiplicand) opcodes
-      End end (n / 2 - 1) (λ k. idle (suc k)) _
-      (next steady n code a b A₀ bits ab t refl hb (kind .first) (λ s. Unit) (λ s. stepped kind steady keeps W A (begun s)) (first-acts kind steady keeps n A₀ fit) (λ s. s .Q ≡ Q) (Left W A sign Q (n / 2 - 1)) (λ s e. tt) first (idle 0) t
-      (start steady n code a b A₀ bits ab t refl hb (λ s. s .Q ≡ Q) refl))
+      repeated (withM 0) n code a b A₀ bits ab t refl hb (kind .inner) (λ s. s .M < 2) (stepped kind W A) (inner-acts kind n A₀ fit)
+      (Left W A sign Q) (λ k s l. l .flag) (step-left W A sign Q sized) opcodes End end (n / 2 - 1) (λ k. idle (suc k)) _
+      (next (withM 0) n code a b A₀ bits ab t refl hb (kind .first) (λ s. Unit) (λ s. stepped kind W A (begun s)) (first-acts kind n A₀ fit)
+      (λ s. s .Q ≡ Q) (Left W A sign Q (n / 2 - 1)) (λ s e. tt) first (idle 0) t
+      (start (withM 0) n code a b A₀ bits ab t refl hb (λ s. s .Q ≡ Q) refl))
     where
       n : ℕ
       n = bitsIn w
 
       code : ℕ
       code = codeOf w
-
-      W : ℕ
-      W = 2 ^ bitsIn w
 
       A₀ : ℕ
       A₀ = readAt (t .file) a
@@ -238,15 +236,15 @@ module _ (kind : Kind) (steady : Status → Status) (keeps : (m : ℕ) (s : Stat
       fit : Fits n A₀
       fit = (omega arith, omega arith)
 
-      multiplicand : Multiplicand W A sign
-      multiplicand = kind .fits n A₀ (omega arith)
+      sized : Sized W A sign
+      sized = kind .sized n A₀ (omega arith)
 
       pow : W ≡ 4 ^ suc (n / 2 - 1)
       pow = ap (λ (x : ℕ). 2 ^ x) (omega arith) ∙ pow4 (suc (n / 2 - 1))
 
-      first : (s : Work) → s .Q ≡ Q → Left W A sign Q (n / 2 - 1) (stepped kind steady keeps W A (begun s))
+      first : (s : Work) → s .Q ≡ Q → Left W A sign Q (n / 2 - 1) (stepped kind W A (begun s))
       first s e =
-          step-left W A sign Q multiplicand (n / 2 - 1) (begun s)
+          step-left W A sign Q sized (n / 2 - 1) (begun s)
           (subst (λ (q : ℕ). Left W A sign q (suc (n / 2 - 1)) (begun s)) e (begin-left W A sign (suc (n / 2 - 1)) s pow (subst (λ (q : ℕ). q < W) (sym e) (mod-lt (t .core .q) (pow-pos n)))))
 
 -- MULTIPLY. On one to four bytes, with the multiplicand in register a, the multiplier in Q, and b another register of the file: after
@@ -258,8 +256,11 @@ pub multiply-exact :
     Multiplied (bitsIn w) a b t (execs (multiplyWords w a b idle) t)
 unfolding wordsOf execs unsigned
 multiply-exact w a b idle t h1 h4 ab hb =
-    all-steps unsigned steady (λ m s. refl) w a b t h1 h4 ab hb (0x5d ∷ []) (Multiplied n a b t)
-    (λ idle u r. done (idle 0) u (in-file steady n code a b A bits ab t refl hb u (r .rest)) (next steady n code a b A bits ab t refl hb 0x5d (λ s. Unit) (mulLast W (A % W)) (last-acts n A two) (Left W (A % W) 0 (t .core .q % W) 0) (Product W (A % W) (t .core .q % W)) (λ s l. tt) (last-product W (A % W) (t .core .q % W) (mod-lt A (pow-pos n))) (idle 0) u r))
+    all-steps unsigned w a b t h1 h4 ab hb (0x5d ∷ []) (Multiplied n a b t)
+    (λ idle u r. done (idle 0) u (in-file steady n code a b A bits ab t refl hb u (r .rest))
+    (next steady n code a b A bits ab t refl hb 0x5d (λ s. Unit) (mulLast W (A % W)) (last-acts n A two)
+    (Left W (A % W) 0 (t .core .q % W) 0) (Product W (A % W) (t .core .q % W)) (λ s l. tt) (last-product W (A % W) (t .core .q % W) (mod-lt A (pow-pos n))) (idle 0) u
+    (record { rest = r .rest; stays = ap (withZ 0) (r .stays); holds = r .holds })))
     idle
   where
     n : ℕ
@@ -311,7 +312,8 @@ pub signed-multiply-exact :
     SignedMultiplied (bitsIn w) a b t (execs (signedMultiplyWords w a b idle) t)
 unfolding wordsOf execs twosComplement
 signed-multiply-exact w a b idle t h1 h4 ab hb =
-    all-steps twosComplement (withM 0) (λ m s. refl) w a b t h1 h4 ab hb [] (SignedMultiplied n a b t) (λ idle u r. done u (r .rest) (r .stays) (ended W (A % W) (top W (A % W)) (t .core .q % W) (view n b u) (r .holds))) idle
+    all-steps twosComplement w a b t h1 h4 ab hb [] (SignedMultiplied n a b t)
+    (λ idle u r. done u (r .rest) (r .stays) (ended W (A % W) (top W (A % W)) (t .core .q % W) (view n b u) (r .holds))) idle
   where
     n : ℕ
     n = bitsIn w
@@ -329,7 +331,9 @@ signed-multiply-exact w a b idle t h1 h4 ab hb =
     value : (x : ℕ) → signed n x ≡ subℕ (x % W) (off W (x % W))
     value x = ap (λ (s : ℕ). subℕ (x % W) (s * W)) (sign-top n x one)
 
-    done : (u : State) → Untouched n b t u → withM 0 (u .core .status) ≡ withM 0 (t .core .status) → Ended W (A % W) (top W (A % W)) (t .core .q % W) (view n b u) → SignedMultiplied n a b t u
+    done :
+        (u : State) → Untouched n b t u → withM 0 (u .core .status) ≡ withM 0 (t .core .status) → Ended W (A % W) (top W (A % W)) (t .core .q % W) (view n b u) →
+        SignedMultiplied n a b t u
     done u rest stays e =
         record {
           product =

@@ -1,6 +1,6 @@
--- The modified Booth algorithm comes out exact, on numbers, unsigned and signed alike: A, B and Q are the selected bits, W is 2 to their number, M is
--- 0 or 1. The multiplicand's value is A - sign W, where sign is its top bit if it is signed, and 0 if not. B is in two's complement. After k steps the
--- low k digits (to the base 4) of the multiplier are used up, and Q holds the k product digits that are out above the rest of the multiplier.
+-- The modified Booth algorithm comes out exact, on numbers, unsigned and signed alike. A, B and Q are the selected bits, W is 2 to their number, M is
+-- 0 or 1. The value of A is A - sign W, where sign is its top bit if the multiplicand is signed, and 0 if not; B is in two's complement. After k steps
+-- the low k digits (to the base 4) of the multiplier are used up, and Q holds the k product digits that are out above the rest of the multiplier.
 use mathlib.Core.Path.{_≡_, refl, sym, ap, _∙_, subst₂}
 use mathlib.Core.Logic.{_⊎_, inl, inr}
 use mathlib.Core.Bool.{Bool, true, false}
@@ -84,8 +84,8 @@ bounded a b c d J K h₁ h₂ h₃ h₄ = pick (order a b) (order c d)
     pick (inr p) (inr q) = omega (arith, crossed a b c d (a - b) (c - d) (omega arith) (omega arith), mul-le-mul {n₁ = a - b} {m₁ = c - d} {n₂ = J} {m₂ = K} (omega arith) (omega arith))
 
 -- ---- one step
--- a multiplicand: below W in size
-pub record Multiplicand (W A sign : ℕ) : Type 0 where
+-- bits A and a sign, 0 or 1, that takes W off: below W in size
+pub record Sized (W A sign : ℕ) : Type 0 where
   pub bits : A < W
   pub one : sign ≤ 1
   pub near : sign * W < W + A
@@ -95,7 +95,7 @@ abbrev Exact : ℕ → ℕ → ℕ → ℕ → ℕ → ℕ → ℕ → ℕ → �
 Exact W A sign R B o low u v = R * B + low + (sign * W * u + A * v) ≡ R * o + (A * u + sign * W * v)
 
 -- where u - v is at most 2 R in size, B - o lies from - 2 W to 2 W
-in-range : (W A sign R B o low u v : ℕ) → Multiplicand W A sign → low < R → u ≤ v + 2 * R → v ≤ u + 2 * R → Exact W A sign R B o low u v
+in-range : (W A sign R B o low u v : ℕ) → Sized W A sign → low < R → u ≤ v + 2 * R → v ≤ u + 2 * R → Exact W A sign R B o low u v
     → (o < B + 2 * W) × (B < o + 2 * W)
 in-range W A sign R B o low u v a hlow up down e =
     (lt-of-mul-lt-mul-left R (omega (arith, size v u down up)), lt-of-mul-lt-mul-left R (omega (arith, size u v up down)))
@@ -105,8 +105,8 @@ in-range W A sign R B o low u v a hlow up down e =
         let f : W ≡ (W - 1) + 1 = omega arith in
         omega (arith, ap (λ (x : ℕ). x * (2 * R)) f, bounded A (sign * W) u v (W - 1) (2 * R) (omega arith) (omega arith) up down)
 
--- The next digit of the multiplier is 2 h + l: with M = m, the multiplicand is added l + m times and taken off 2 h times.
-module _ (W A sign H R B signB low u m l h : ℕ) (a : Multiplicand W A sign) (even : W ≡ 2 * H) (hlow : low < R) (hu : u < R) (hl : l ≤ 1) (hh : h ≤ 1)
+-- The next digit of the multiplier is 2 h + l: with M = m, the multiplicand is added l + m times and taken off 2 h times
+module _ (W A sign H R B signB low u m l h : ℕ) (a : Sized W A sign) (even : W ≡ 2 * H) (hlow : low < R) (hu : u < R) (hl : l ≤ 1) (hh : h ≤ 1)
     (e : Exact W A sign R B (signB * W) low u (m * R)) where
   -- the digits used up, of value u' - v'
   abbrev u' : ℕ
@@ -141,8 +141,8 @@ module _ (W A sign H R B signB low u m l h : ℕ) (a : Multiplicand W A sign) (e
       gathered X Y b f o P M s e = omega (arith, ap (λ (x : ℕ). R * x) s)
 
 -- ---- the steps
--- With k digits of the multiplier left, R = 4 ^ (the digits used up), and u those digits as a number: M is their top bit, and the value of B, of
--- weight R, and the product digits that are out are the multiplicand times u with its top bit taken as a sign, u - M R.
+-- With k digits of the multiplier left, u those used up and R 4 to their number: M is the top bit of u, and the value of B, of weight R, and the
+-- product digits that are out, low, are the multiplicand times u with its top bit taken as a sign, u - M R.
 pub record Left (W A sign Q₀ k : ℕ) (s : Work) : Type 0 where
   pub R : ℕ
   pub low : ℕ
@@ -159,7 +159,7 @@ pub record Left (W A sign Q₀ k : ℕ) (s : Work) : Type 0 where
   pub upto : 2 * u < s .M * R + R
   pub exact : Exact W A sign R (s .B) (off W (s .B)) low u (s .M * R)
 
-pub step-left : (W A sign Q₀ : ℕ) → Multiplicand W A sign → (k : ℕ) (s : Work) → Left W A sign Q₀ (suc k) s → Left W A sign Q₀ k (mulStep W (A + 3 * (sign * W)) s)
+pub step-left : (W A sign Q₀ : ℕ) → Sized W A sign → (k : ℕ) (s : Work) → Left W A sign Q₀ (suc k) s → Left W A sign Q₀ k (mulStep W (A + 3 * (sign * W)) s)
 unfolding mulStep
 step-left W A sign Q₀ a k s i =
     let e : 4 ^ suc k ≡ 4 * 4 ^ k = omega arith in
@@ -182,7 +182,9 @@ step-left W A sign Q₀ a k s i =
       flag = omega arith;
       from = omega arith;
       upto = omega (arith, mul-le-mul-right {m = s .Q % 2} {n = 1} (i .R) (omega arith));
-      exact = next-exact W A sign (2 * (i .R * 4 ^ k)) (i .R) (s .B) (top W (s .B)) (i .low) (i .u) (s .M) (s .Q % 2) (s .Q / 2 % 2) a (omega arith) (i .low<) (i .u<) (omega arith) (omega arith) (i .exact);
+      exact =
+          next-exact W A sign (2 * (i .R * 4 ^ k)) (i .R) (s .B) (top W (s .B)) (i .low) (i .u) (s .M) (s .Q % 2) (s .Q / 2 % 2) a
+          (omega arith) (i .low<) (i .u<) (omega arith) (omega arith) (i .exact);
     }
 
 pub begin-left : (W A sign k : ℕ) (s : Work) → W ≡ 4 ^ k → s .Q < W → Left W A sign (s .Q) k (begun s)

@@ -18,11 +18,11 @@ use Rattle.sheet.proofs.Table.{ready}
 use Rattle.run.specs.Run.{Ended, entering, ran}
 use Rattle.run.proofs.Laws.{each-ready, word-sound, execs-sane}
 use Rattle.run.proofs.Parts.{run-is, entering-sane, back}
-use Rattle.sequence.specs.Sequences.{Idle, bitsIn, wordsOf as listed, multiplyWords, divideWords}
-use Rattle.sequence.specs.Results.{register, Multiplied, Divided}
+use Rattle.sequence.specs.Sequences.{Idle, bitsIn, wordsOf as listed, multiplyWords, signedMultiplyWords, divideWords}
+use Rattle.sequence.specs.Results.{register, Multiplied, SignedMultiplied, Divided}
 use Rattle.sequence.specs.Decimal.{DecimalOperation, additions, subtractions, Side, Side.at-A, Side.at-B, Layout, calculation, correctionAt, decimalWords, sumWords, differenceWords, facing, Summed, TakenAway, SumExact, DifferenceExact, Each}
 use Rattle.sequence.specs.OnSheets.{Stands, Accepted, handed, runOn, SumOnSheet, DifferenceOnSheet}
-use Rattle.sequence.proofs.Multiply.{multiply-exact}
+use Rattle.sequence.proofs.Multiply.{multiply-exact, signed-multiply-exact}
 use Rattle.sequence.proofs.Divide.{divide-exact}
 use Rattle.sequence.proofs.Decimal.{each, decimal-sums-exact, decimal-differences-exact}
 
@@ -61,6 +61,15 @@ module _ (s file : List ℕ) (m : Machine) (start : ℕ) (call : Accepted s file
   sheet-multiplies w a b idle h1 h4 ab stands =
       subst (λ (t : State). Multiplied (bitsIn w) a b (entering file m) t) (sym (run-leaves (multiplyWords w a b idle) stands))
       (multiply-exact w a b idle (entering file m) h1 h4 ab (first-ready _ _ stands .b))
+
+  -- SIGNED MULTIPLY ON A SHEET. Where the signed multiply list stands in an accepted sheet, running it leaves the two halves of the exact product in
+  -- register b and Q, all in two's complement, and all else as it was, but for M, which is the sign bit of the multiplier.
+  pub sheet-multiplies-signed : (w a b : ℕ) (idle : ℕ → Idle) → 1 ≤ w → w ≤ 4 → a ≢ b → Stands s start (signedMultiplyWords w a b idle)
+      → SignedMultiplied (bitsIn w) a b (entering file m) (handed (runOn s file m start (signedMultiplyWords w a b idle)))
+  unfolding listed
+  sheet-multiplies-signed w a b idle h1 h4 ab stands =
+      subst (λ (t : State). SignedMultiplied (bitsIn w) a b (entering file m) t) (sym (run-leaves (signedMultiplyWords w a b idle) stands))
+      (signed-multiply-exact w a b idle (entering file m) h1 h4 ab (first-ready _ _ stands .b))
 
   -- DIVIDE ON A SHEET. With the selected bytes of register b zero and those of register a not, Q gets the exact quotient and register b the
   -- remainder, below the divisor; the status register is as `dividedStatus` has it.
