@@ -8,11 +8,11 @@ use Rattle.machine.specs.declared.Status.{Status}
 use Rattle.machine.specs.Status.{workedOut, gathered, spreadOut, asRead, loaded, Good, withNibbles}
 use Rattle.machine.proofs.Nibbles.{gathered-lt, apart-spread}
 
-bound : (c n v z : ℕ) → c < 2 → n < 2 → v < 2 → z < 2 → max c z + (n + v) % 2 * 2 + max ((n + v) % 2) z * 4 < 8
-bound c n v z hc hn hv hz = omega arith
+pub worked-out-lt : (c n v z : ℕ) → c < 2 → n < 2 → v < 2 → z < 2 → max c z + (n + v) % 2 * 2 + max ((n + v) % 2) z * 4 < 8
+worked-out-lt c n v z hc hn hv hz = omega arith
 
 -- a field of j bits above k
-field-at : (k j hi f lo x : ℕ) → x ≡ (hi * 2 ^ j + f) * 2 ^ k + lo → lo < 2 ^ k → f < 2 ^ j → x / 2 ^ k % 2 ^ j ≡ f
+pub field-at : (k j hi f lo x : ℕ) → x ≡ (hi * 2 ^ j + f) * 2 ^ k + lo → lo < 2 ^ k → f < 2 ^ j → x / 2 ^ k % 2 ^ j ≡ f
 field-at k j hi f lo x e h l = ap (λ (y : ℕ). y / 2 ^ k % 2 ^ j) e ∙ ap (λ (y : ℕ). y % 2 ^ j) (high (hi * 2 ^ j + f) k h) ∙ low hi j l
 
 -- the fields of a word put together from numbers within their bits
@@ -20,9 +20,9 @@ module _ (p w d c n v z l m s b : ℕ) (hp : p < 256) (hw : w < 32) (hd : d < 8)
   abbrev word : ℕ
   word = p + w * 2 ^ 8 + d * 2 ^ 13 + c * 2 ^ 16 + n * 2 ^ 17 + v * 2 ^ 18 + z * 2 ^ 19 + l * 2 ^ 20 + m * 2 ^ 21 + s * 2 ^ 22 + b * 2 ^ 24
 
-  back : _≡_ {A = Status} (loaded word) (record { position = p; width = w; c = c; n = n; v = v; z = z; l = l; m = m; s = s; nibbles = spreadOut 8 b })
+  pub fields-of : _≡_ {A = Status} (loaded word) (record { position = p; width = w; c = c; n = n; v = v; z = z; l = l; m = m; s = s; nibbles = spreadOut 8 b })
   unfolding loaded
-  back =
+  fields-of =
       let e0 : word % 2 ^ 8 ≡ p = ap (λ (y : ℕ). y % 2 ^ 8) (sym (div-one word)) ∙ field-at 0 8 (w + d * 2 ^ 5 + c * 2 ^ 8 + n * 2 ^ 9 + v * 2 ^ 10 + z * 2 ^ 11 + l * 2 ^ 12 + m * 2 ^ 13 + s * 2 ^ 14 + b * 2 ^ 16) p 0 word (omega arith) (omega arith) hp in
       let e1 : word / 2 ^ 8 % 2 ^ 5 ≡ w = field-at 8 5 (d + c * 2 ^ 3 + n * 2 ^ 4 + v * 2 ^ 5 + z * 2 ^ 6 + l * 2 ^ 7 + m * 2 ^ 8 + s * 2 ^ 9 + b * 2 ^ 11) w (p) word (omega arith) (omega arith) hw in
       let e2 : word / 2 ^ 16 % 2 ^ 1 ≡ c = field-at 16 1 (n + v * 2 ^ 1 + z * 2 ^ 2 + l * 2 ^ 3 + m * 2 ^ 4 + s * 2 ^ 5 + b * 2 ^ 7) c (p + w * 2 ^ 8 + d * 2 ^ 13) word (omega arith) (omega arith) hc in
@@ -38,8 +38,8 @@ module _ (p w d c n v z l m s b : ℕ) (hp : p < 256) (hw : w < 32) (hd : d < 8)
 pub loaded-read : (s : Status) → Good s → loaded (asRead s) ≡ s
 unfolding asRead
 loaded-read s g =
-    back (s .position) (s .width) (workedOut s) (s .c) (s .n) (s .v) (s .z) (s .l) (s .m) (s .s) (gathered 8 (s .nibbles))
-    (g .position) (g .width) (bound (s .c) (s .n) (s .v) (s .z) (g .c) (g .n) (g .v) (g .z)) (g .c) (g .n) (g .v) (g .z) (g .l) (g .m) (g .s)
+    fields-of (s .position) (s .width) (workedOut s) (s .c) (s .n) (s .v) (s .z) (s .l) (s .m) (s .s) (gathered 8 (s .nibbles))
+    (g .position) (g .width) (worked-out-lt (s .c) (s .n) (s .v) (s .z) (g .c) (g .n) (g .v) (g .z)) (g .c) (g .n) (g .v) (g .z) (g .l) (g .m) (g .s)
     ∙ ap (λ (b : ℕ). withNibbles b s) (g .nibbles)
 
 pub loaded-good : (x : ℕ) → Good (loaded x)
@@ -59,4 +59,4 @@ loaded-good x = record {
 
 pub read-lt : (s : Status) → Good s → asRead s < 2 ^ 32
 unfolding asRead
-read-lt s g = let h : workedOut s < 8 = bound (s .c) (s .n) (s .v) (s .z) (g .c) (g .n) (g .v) (g .z) in omega (arith, gathered-lt 8 (s .nibbles))
+read-lt s g = let h : workedOut s < 8 = worked-out-lt (s .c) (s .n) (s .v) (s .z) (g .c) (g .n) (g .v) (g .z) in omega (arith, gathered-lt 8 (s .nibbles))

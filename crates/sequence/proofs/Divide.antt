@@ -23,7 +23,7 @@ use Rattle.sequence.specs.Sequences.{Idle, bitsIn, codeOf, wordOf, words
 use Rattle.sequence.specs.Results.{register, lowQ, oddQ, Divided}
 use Rattle.sequence.proofs.Lists.{Work, view, before, after, Acts, acts-from, carried, carried-back, Reached, start, next, repeated, in-file, untouched-then, word-rest, word-status, word-y, merged-low, merged-high, bits-of-bytes, sign-top, not-cut, cut-sum}
 use Rattle.sequence.proofs.MultiplyNumbers.{top}
-use Rattle.sequence.proofs.DivideNumbers.{divSum, divF, divC, newBit, divFirst, divStep, divLast, Left, first-left, step-left, flag-m, Whole, Less, Done, last-done, sign-is}
+use Rattle.sequence.proofs.DivideNumbers.{divSum, divF, operandOf, divC, newBit, divFirst, divStep, divLast, Left, first-left, step-left, flag-m, Whole, Less, Done, last-done, sign-is}
 
 -- ---- numbers modulo W
 -- a value shifted up by one, by its remainder
@@ -35,7 +35,7 @@ double-cut W f t =
     shape : (W f t p r : ℕ) → f ≡ p * W + r → 2 * f + t ≡ 2 * p * W + (2 * r + t)
     shape W f t p r e = omega arith
 
-upshifted-cut : (W f t : ℕ) → (f * 2 + t) % W ≡ (2 * (f % W) + t) % W
+pub upshifted-cut : (W f t : ℕ) → (f * 2 + t) % W ≡ (2 * (f % W) + t) % W
 upshifted-cut W f t = ap (λ (v : ℕ). (v + t) % W) (mul-comm f 2) ∙ double-cut W f t
 
 -- ---- F, its carry and its sign, for n selected bits
@@ -52,8 +52,8 @@ module _ (n a b m : ℕ) (hn : n ≤ 32) (ha : a < 2 ^ 32) where
       taken : b % 2 ^ n + ((2 ^ n - 1) - a % 2 ^ n) + 1 + (s + 1) * 2 ^ n ≡ b % 2 ^ n + s * 2 ^ n + (2 * 2 ^ n - a % 2 ^ n)
       taken = let h : a % 2 ^ n < 2 ^ n = mod-lt a (pow-pos n) in omega arith
 
-  carry-is : m < 2 → carryOf n b (choose m a (notOf a)) m ≡ divC (2 ^ n) (a % 2 ^ n) (b % 2 ^ n) m
-  unfolding carryOf divC
+  pub carry-is : m < 2 → carryOf n b (choose m a (notOf a)) m ≡ divC (2 ^ n) (a % 2 ^ n) (b % 2 ^ n) m
+  unfolding carryOf operandOf
   carry-is hm =
       by-flag (λ (m : ℕ). (b % 2 ^ n + choose m a (notOf a) % 2 ^ n + m) / 2 ^ n ≡ divC (2 ^ n) (a % 2 ^ n) (b % 2 ^ n) m)
       (ap (λ (v : ℕ). v / 2 ^ n) (omega arith))
@@ -64,15 +64,15 @@ module _ (n a b m : ℕ) (hn : n ≤ 32) (ha : a < 2 ^ 32) where
       taken = let h : a % 2 ^ n < 2 ^ n = mod-lt a (pow-pos n) in omega arith
 
 -- ---- the words
--- they leave V, the nibble bits, position and width alone
-abbrev steady : Status → Status
+-- they leave V, the nibble bits, position and width alone, as the signed ones do
+abbrev pub steady : Status → Status
 steady s = withC 0 (withN 0 (withM 0 (withZ 0 (withS 0 (withL 0 s)))))
 
 -- what is asked of the number of selected bits and of the divisor
-abbrev Fits : ℕ → ℕ → Type 0
+abbrev pub Fits : ℕ → ℕ → Type 0
 Fits n A = (1 ≤ n) × (n ≤ 32) × (A < 2 ^ 32)
 
-abbrev FlagM : Work → Type 0
+abbrev pub FlagM : Work → Type 0
 FlagM s = s .M < 2
 
 module _ (x : Inputs) (fits : Fits (bitsOf x) (x .a)) (hm : x .status .m < 2) where

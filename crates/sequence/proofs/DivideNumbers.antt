@@ -24,10 +24,13 @@ divSum W A (suc m) = 2 * W - A
 abbrev pub divF : ℕ → ℕ → Work → ℕ
 divF W A s = (s .B + s .S * W + divSum W A (s .M)) % (2 * W)
 
--- the carry out of the n selected bits: B plus the complement of A plus 1, or B plus A
-unfoldable pub divC : ℕ → ℕ → ℕ → ℕ → ℕ
-divC W A B zero = (B + A) / W
-divC W A B (suc m) = (B + (W - A)) / W
+-- in n bits: what is added to B, which is A or its two's complement, and the carry out of them
+unfoldable pub operandOf : ℕ → ℕ → ℕ → ℕ
+operandOf W A zero = A
+operandOf W A (suc m) = W - A
+
+abbrev pub divC : ℕ → ℕ → ℕ → ℕ → ℕ
+divC W A B M = (B + operandOf W A M) / W
 
 -- the new quotient bit: the complement of the sign of the extended result, which is bit n of F
 abbrev pub newBit : ℕ → ℕ → ℕ
@@ -159,13 +162,13 @@ pub record Inv (W D X R T : ℕ) (s : Work) : Type 0 where
   rest< : rest < T
 
 -- the top bit of Q, and Q shifted up
-top-q : (R T b rest q Q W : ℕ) → W ≡ R * (2 * T) → Q ≡ (b * T + rest) * R + q → q < R → rest < T → top W Q ≡ b
+pub top-q : (R T b rest q Q W : ℕ) → W ≡ R * (2 * T) → Q ≡ (b * T + rest) * R + q → q < R → rest < T → top W Q ≡ b
 top-q R T b rest q Q W hW hQ hq hr = ap (λ (x : ℕ). x / W) e ∙ digits-div b {m = W} {r = 2 * (rest * R + q)} (omega (arith, digits-lt {q = rest} {m = T} {r = q} {c = R} hr hq))
   where
     e : 2 * Q ≡ b * W + 2 * (rest * R + q)
     e = omega (arith, ap (λ (x : ℕ). b * x) hW)
 
-shift-q : (R T b rest q Q W nb : ℕ) → W ≡ R * (2 * T) → Q ≡ (b * T + rest) * R + q → q < R → rest < T → nb < 2 → (2 * Q + nb) % W ≡ rest * (2 * R) + (2 * q + nb)
+pub shift-q : (R T b rest q Q W nb : ℕ) → W ≡ R * (2 * T) → Q ≡ (b * T + rest) * R + q → q < R → rest < T → nb < 2 → (2 * Q + nb) % W ≡ rest * (2 * R) + (2 * q + nb)
 shift-q R T b rest q Q W nb hW hQ hq hr hn = ap (λ (x : ℕ). x % W) e ∙ digits-mod b {m = W} {r = rest * (2 * R) + (2 * q + nb)} (omega (arith, digits-lt {q = rest} {m = T} {r = 2 * q + nb} {c = 2 * R} hr (omega arith)))
   where
     e : 2 * Q + nb ≡ b * W + (rest * (2 * R) + (2 * q + nb))
@@ -311,7 +314,7 @@ bit-n W k y N hy hN = ap (λ (x : ℕ). x / W) (ap (λ (x : ℕ). x % (2 * W)) e
     e = omega (arith, ap (λ (x : ℕ). x * W) (div-add-mod' k 2))
 
 sign-num : (W A B S M : ℕ) → A < W → M < 2 → (B + S * W + divSum W A M) % (2 * W) / W ≡ (M + S + divC W A B M) % 2
-unfolding divSum divC
+unfolding divSum operandOf
 sign-num W A B S zero hA hM =
     bit-n W (0 + S + (B + A) / W) ((B + A) % W) _ (mod-lt (B + A) (omega arith)) (omega (arith, div-add-mod' (B + A) W))
 sign-num W A B S (suc zero) hA hM =

@@ -80,6 +80,13 @@ ordered {a} {b} {c} {d} (below j p) (above k q) = sym (lt-ltb (a + d) (c + b) (o
 ordered {a} {b} {c} {d} (below j p) (below k q) = alike k (a + d) j (c + b) (omega arith)
 
 -- ---- the laws of differences
+-- a natural, and its negative
+pub pos-sub : (v : ℕ) → pos v ≡ subℕ v 0
+pos-sub v = same (whole v) (sub-is v 0)
+
+pub neg-sub : (v : ℕ) → negℤ (pos v) ≡ subℕ 0 v
+neg-sub v = same (negated (whole v)) (sub-is 0 v)
+
 -- two differences are one integer exactly where, crosswise, they have one sum
 pub sub-same : (a b c d : ℕ) → a + d ≡ c + b → subℕ a b ≡ subℕ c d
 sub-same a b c d e = same (moved c d (sub-is a b) e) (sub-is c d)

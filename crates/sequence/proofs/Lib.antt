@@ -6,6 +6,15 @@ pub mod MultiplyNumbers
 pub mod Multiply
 pub mod DivideNumbers
 pub mod Divide
+pub mod SignedDivideNumbers
+pub mod SignedCorrections
+pub mod SignedSteps
+pub mod SignedFlags
+pub mod SignedTail
+pub mod SignAndSize
+pub mod SignedResult
+pub mod SignedDivide
+pub mod SingleDivide
 pub mod DecimalNumbers
 pub mod DecimalWords
 pub mod Decimal

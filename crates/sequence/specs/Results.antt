@@ -82,6 +82,10 @@ signedIn n r t = signed n (readAt (t .file) r)
 abbrev pub longDividend : ℕ → Registers → State → ℤ
 longDividend n r t = signedLong n (register n (r .R) t) (lowQ n t)
 
+-- the most negative number over -1: of a dividend of n bits in register x, the one quotient that does not fit n bits
+abbrev pub TooLarge : ℕ → ℕ → Registers → State → Type 0
+TooLarge n x r t = (register n x t ≡ 2 ^ (n - 1)) × (register n (r .D) t ≡ 2 ^ n - 1)
+
 -- the rest of the file and of Q is as before: every register but those of quotient and remainder, the number of registers, and the unselected bytes
 -- of those two and of Q
 pub record Apart (n : ℕ) (r : Registers) (t u : State) : Type 0 where

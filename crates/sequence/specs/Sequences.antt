@@ -1,4 +1,5 @@
 -- The sequences of words that must come out exact, as lists for w bytes, w from 1 to 4.
+use mathlib.Core.Logic.{_≢_}
 use mathlib.Core.List.{List, [], _∷_, _++_}
 use Prim.Native.Nat.{ℕ, zero, suc, _-_, _*_, _/_, _%_}
 use Rattle.chip.specs.declared.Word.{Word}
@@ -74,6 +75,13 @@ pub record Registers : Type 0 where
   pub K : ℕ
   pub O : ℕ
 
+-- the remainder's register is none of the others, and the quotient's is not the divisor's
+pub record Different (r : Registers) : Type 0 where
+  pub divisor-remainder : r .D ≢ r .R
+  pub divisor-quotient : r .D ≢ r .K
+  pub remainder-quotient : r .R ≢ r .K
+  pub zero-remainder : r .O ≢ r .R
+
 -- a word that writes nothing, and two of the status register alone, at a place in it
 abbrev pub looking : ℕ → ℕ → ℕ → ℕ → Idle → Word
 looking code a b opcode i =
@@ -129,8 +137,8 @@ abbrev pub signedDivideWords : ℕ → Registers → (ℕ → Idle) → (ℕ →
 signedDivideWords w r idle free = wordsOf (codeOf w) (r .D) (r .R) (signedDivideOpcodes w) idle ++ correctionWords w r free
 
 -- a dividend of n bits in register x: LOADQ-A takes it to Q, and SIGN its sign to the remainder's register
-abbrev pub shortDivideWords : ℕ → ℕ → Registers → Unread → Unread → (ℕ → Idle) → (ℕ → Unread) → List Word
-shortDivideWords w x r load sign idle free =
+abbrev pub singleDivideWords : ℕ → ℕ → Registers → Unread → Unread → (ℕ → Idle) → (ℕ → Unread) → List Word
+singleDivideWords w x r load sign idle free =
     looking (codeOf w) x (load .b) 0x06 (load .idle)
     ∷ wordOf (codeOf w) (sign .a) (r .R) 0x3d (sign .idle)
     ∷ signedDivideWords w r idle free
