@@ -2,19 +2,24 @@
 -- word do not; and what the definitions of the status register afterwards say is what is found there.
 use mathlib.Core.Path.{_≡_, refl, ap}
 use mathlib.Core.Logic.{_≢_}
-use mathlib.Core.List.{List, [], _∷_}
+use mathlib.Core.List.{List, [], _∷_, _++_}
 use Prim.Native.Nat.{ℕ, _-_, _/_}
 use native.Mathlib.Omega.{arith}
-use Rattle.bits.specs.Bits.{zeroOf, merged, carryOf, overflowOf}
-use Rattle.machine.specs.Status.{spreadOut, loaded}
+use Rattle.bits.specs.Bits.{zeroOf, merged, carryOf, overflowOf, putBit}
+use Rattle.machine.specs.Status.{gathered, spreadOut, asRead, loaded}
+use Rattle.movement.specs.DataMovement.{loadQ, PASS-Q}
+use Rattle.movement.specs.Logical.{SIGN}
+use Rattle.shifts.specs.SingleBit.{downshifted, down}
 use Rattle.arithmetic.specs.Nibbles.{nibbleCarries}
 use Rattle.arithmetic.specs.Arithmetic.{sum}
 use Rattle.arithmetic.specs.Decimal.{sumCorrect}
 use Rattle.multiply.specs.Multiply.{firstRow, stepRow, firstPartial, partial, firstStep, step, UMULLAST}
-use Rattle.divide.specs.Divide.{UDIVFIRST, UDIVSTEP, UDIVLAST, REMCORR, QUOCORR}
+use Rattle.divide.specs.Divide.{SDIVFIRST, UDIVFIRST, SDIVSTEP, SDIVLAST1, UDIVSTEP, UDIVLAST, REMCORR, QUOCORR, SDIVLAST2}
+use Rattle.fields.specs.BitManipulation.{putStatus, EXTBIT-STAT}
+use Rattle.chip.specs.declared.Word.{Word}
 use Rattle.chip.specs.Glossary.{performOf}
 use Rattle.chip.specs.Lists.{State, state, readAt, storeAt, stepOf, execs}
-use Rattle.sequence.specs.Sequences.{wordsOf, times, bitsIn, codeOf, multiplyOpcodes, signedMultiplyOpcodes, divideOpcodes}
+use Rattle.sequence.specs.Sequences.{Registers, Unread, wordOf, looking, wordsOf, times, bitsIn, codeOf, multiplyOpcodes, divideOpcodes, signedMultiplyOpcodes, signedDivideOpcodes, singleDivideWords}
 use Rattle.sequence.specs.Results.{multipliedStatus, dividedStatus}
 use Rattle.sequence.specs.Decimal.{value, Side.at-A, Fields, Layout, decimalWords, summedStatus}
 
@@ -138,3 +143,36 @@ pub status-summed :
     (summed .core .status ≡ summedStatus 2 0x95 0x10 0 0x05 (loaded 0))
 unfolding performOf stepOf execs readAt storeAt spreadOut loaded zeroOf merged carryOf overflowOf nibbleCarries sum sumCorrect value
 status-summed = (refl, refl, refl, refl)
+
+-- ---- signed divide at one byte: dividend, divisor, remainder, quotient and zero in registers 0 to 4; what stands where the words do not look is zero
+abbrev registers : Registers
+registers = record { D = 1; R = 2; K = 3; O = 4 }
+
+abbrev unread : Unread
+unread = record { a = 0; b = 0; idle = record { position = 0; width = 0; carry = 0; link = 0 } }
+
+-- the quotient and the remainder that words leave of the dividend x and the divisor d
+abbrev quotientAndRemainder : List Word → ℕ → ℕ → ℕ × ℕ
+quotientAndRemainder ws x d =
+    let u : State = execs ws (state (x ∷ d ∷ 0 ∷ 0 ∷ 0 ∷ []) (record { q = 0; status = loaded 0 })) in
+    (readAt (u .file) 3, readAt (u .file) 2)
+
+abbrev divideSigned : ℕ → ℕ → ℕ × ℕ
+divideSigned = quotientAndRemainder (singleDivideWords 1 0 registers unread unread (λ k. unread .idle) (λ k. unread))
+
+-- 7 by 2, 7 by -2, -7 by 2 and -7 by -2 are 3, -3, -3 and 3, with remainders of the dividend's sign; -9 by 3 and -8 by 2 leave none
+pub signed-divide-leaves :
+    (divideSigned 0x07 0x02 ≡ (0x03, 0x01)) × (divideSigned 0x07 0xfe ≡ (0xfd, 0x01)) × (divideSigned 0xf9 0x02 ≡ (0xfd, 0xff)) ×
+    (divideSigned 0xf9 0xfe ≡ (0x03, 0xff)) × (divideSigned 0xf7 0x03 ≡ (0xfd, 0x00)) × (divideSigned 0xf8 0x02 ≡ (0xfc, 0x00))
+unfolding performOf stepOf execs readAt storeAt gathered spreadOut asRead loaded zeroOf merged carryOf overflowOf putBit loadQ PASS-Q SIGN downshifted down putStatus EXTBIT-STAT SDIVFIRST SDIVSTEP SDIVLAST1 SDIVLAST2 QUOCORR REMCORR wordsOf times
+signed-divide-leaves = (refl, refl, refl, refl, refl, refl)
+
+-- the words of table 11-2 one after another, without its jump: of -9 by 3, which leaves no remainder, they leave -2 and -3
+abbrev withoutTheJump : List Word
+withoutTheJump =
+    looking 1 0 0 0x06 (unread .idle) ∷ wordOf 1 0 2 0x3d (unread .idle) ∷ (wordsOf 1 1 2 (signedDivideOpcodes 1) (λ k. unread .idle)
+    ++ (looking 1 1 2 0x5a (unread .idle) ∷ wordOf 1 0 3 0x05 (unread .idle) ∷ wordOf 1 0 3 0x59 (unread .idle) ∷ wordOf 1 1 2 0x58 (unread .idle) ∷ []))
+
+pub without-the-jump-fails : quotientAndRemainder withoutTheJump 0xf7 0x03 ≢ (0xfd, 0x00)
+unfolding performOf stepOf execs readAt storeAt gathered spreadOut asRead loaded zeroOf merged carryOf overflowOf putBit loadQ PASS-Q SIGN downshifted down putStatus EXTBIT-STAT SDIVFIRST SDIVSTEP SDIVLAST1 SDIVLAST2 QUOCORR REMCORR wordsOf times
+without-the-jump-fails e = let h : _≡_ {A = ℕ} 0xfe 0xfd = ap (λ (p : ℕ × ℕ). p .0) e in absurd (omega arith)

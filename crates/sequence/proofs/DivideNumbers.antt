@@ -13,7 +13,7 @@ use lib.Arith.{digits-div, digits-mod, digits-lt}
 use borrow.Author.Tests.{ne-eqb}
 use Rattle.bits.specs.Bits.{flag}
 use Rattle.sequence.proofs.Lists.{Work}
-use Rattle.sequence.proofs.MultiplyNumbers.{top}
+use Rattle.sequence.proofs.TopBit.{top}
 
 -- ---- the words on numbers
 -- F of n + 1 bits: B extended by S, less A (M = 1) or plus A (M = 0), A being zero extended

@@ -1,6 +1,7 @@
 -- These proofs assume nothing.
 pub mod Counterexamples
 pub mod Integers
+pub mod TopBit
 pub mod Lists
 pub mod MultiplyNumbers
 pub mod Multiply
@@ -15,6 +16,7 @@ pub mod SignAndSize
 pub mod SignedResult
 pub mod SignedDivide
 pub mod SingleDivide
+pub mod SignedOnce
 pub mod DecimalNumbers
 pub mod DecimalWords
 pub mod Decimal

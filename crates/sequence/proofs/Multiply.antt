@@ -26,7 +26,8 @@ use Rattle.sequence.specs.Sequences.{Idle, bitsIn, codeOf, wordOf, words
 use Rattle.sequence.specs.Results.{register, lowQ, Untouched, Multiplied, SignedMultiplied}
 use Rattle.sequence.proofs.Integers.{signed-long}
 use Rattle.sequence.proofs.Lists.{Work, view, before, after, Acts, acts-from, Reached, start, next, repeated, in-file, word-status, word-y, merged-low, merged-high, zero-low, bits-of-bytes, low-digit, second-bit, sign-top}
-use Rattle.sequence.proofs.MultiplyNumbers.{top, off, partialOf, shifted, mulStep, begun, mulLast, Sized, Left, begin-left, step-left, Ended, ended, ended-product, Product, last-product, pow4}
+use Rattle.sequence.proofs.TopBit.{top, off}
+use Rattle.sequence.proofs.MultiplyNumbers.{partialOf, shifted, mulStep, begun, mulLast, Sized, Left, begin-left, step-left, Ended, ended, ended-product, Product, last-product, pow4}
 
 -- the number of selected bits is from 2 to 32
 abbrev Fits : ℕ → ℕ → Type 0

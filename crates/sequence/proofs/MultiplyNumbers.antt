@@ -16,15 +16,9 @@ use Rattle.multiply.proofs.Bounds.{same-mod}
 use Rattle.multiply.proofs.Rows.{once-more}
 use Rattle.sequence.proofs.Integers.{crossed, sub-same, sub-product}
 use Rattle.sequence.proofs.Lists.{Work}
+use Rattle.sequence.proofs.TopBit.{top, off, off-low, off-high}
 
 -- ---- the words on numbers
--- the top bit of a number below W, and what two's complement takes off for it
-abbrev pub top : ℕ → ℕ → ℕ
-top W x = 2 * x / W
-
-abbrev pub off : ℕ → ℕ → ℕ
-off W x = top W x * W
-
 -- F* from A*, B*, Q and M: A* is added Q0 + M times, and twice A* taken off where Q1 is set, modulo 4 W
 abbrev pub partialOf : ℕ → ℕ → ℕ → ℕ → ℕ → ℕ
 partialOf W A B Q M = (B + (Q % 2 + M) * A + (8 * W - Q / 2 % 2 * (2 * A))) % (4 * W)
@@ -51,14 +45,6 @@ order a b = go (ltb a b) refl
     go : (t : Bool) → ltb a b ≡ t → (a < b) ⊎ (b ≤ a)
     go true e = inl (ltb-true a b e)
     go false e = inr (ltb-false a b e)
-
-off-low : (W x : ℕ) → 2 * x < W → off W x ≡ 0
-off-low W x h = ap (λ (v : ℕ). v * W) (div-eq-of-lt h) ∙ omega arith
-
-off-high : (W x : ℕ) → W ≤ 2 * x → x < W → off W x ≡ W
-off-high W x h l =
-    let e : 2 * x ≡ 1 * W + (2 * x - W) = omega arith in
-    ap (λ (v : ℕ). v / W * W) e ∙ ap (λ (v : ℕ). v * W) (digits-div 1 {m = W} {r = 2 * x - W} (omega arith)) ∙ omega arith
 
 -- where X - Y lies from - 2 W to 2 W, the n + 2 bits of a number that is X - Y modulo 4 W are X - Y in two's complement
 settled : (W H X Y Z i j : ℕ) → W ≡ 2 * H → Z + Y + i * (4 * W) ≡ X + j * (4 * W) → Y ≤ X + 2 * W → X < Y + 2 * W

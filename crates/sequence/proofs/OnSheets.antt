@@ -4,6 +4,7 @@ use mathlib.Core.Logic.{_≢_}
 use mathlib.Core.List.{List, [], _∷_}
 use Prim.Native.Nat.{ℕ, _≤_, _<_}
 use lib.ListN.{length, drop}
+use lib.Signed.{quotZ}
 use Rattle.machine.specs.declared.Machine.{Machine}
 use Rattle.machine.specs.Inputs.{Sound}
 use Rattle.machine.proofs.Handed.{taken-good}
@@ -15,18 +16,24 @@ use Rattle.sheet.specs.declared.Given.the-variants.{Number}
 use Rattle.sheet.proofs.Positions.{All, all-take, all-drop}
 use Rattle.sheet.proofs.Positions.All.{more}
 use Rattle.sheet.proofs.Table.{ready}
-use Rattle.run.specs.Run.{Ended, entering, ran}
+use Rattle.run.specs.Run.{Sane, Ended, entering, ran}
 use Rattle.run.proofs.Laws.{each-ready, word-sound, execs-sane}
 use Rattle.run.proofs.Parts.{run-is, entering-sane, back}
-use Rattle.sequence.specs.Sequences.{Idle, bitsIn, wordsOf as listed, multiplyWords, signedMultiplyWords, divideWords}
-use Rattle.sequence.specs.Results.{register, Multiplied, SignedMultiplied, Divided}
+use Rattle.sequence.specs.Signed.{Fits}
+use Rattle.sequence.specs.Sequences.{Idle, Registers, Different, Unread, bitsIn, wordsOf as listed, multiplyWords, divideWords, signedMultiplyWords, signedDivideWords, singleDivideWords}
+use Rattle.sequence.specs.Results.{register, signedIn, longDividend, TooLarge, Multiplied, Divided, SignedMultiplied, SignedDivided}
 use Rattle.sequence.specs.Decimal.{DecimalOperation, additions, subtractions, Side, Side.at-A, Side.at-B, Layout, calculation, correctionAt, decimalWords, sumWords, differenceWords, facing, Summed, TakenAway, SumExact, DifferenceExact, Each}
 use Rattle.sequence.specs.OnSheets.{Stands, Accepted, handed, runOn, SumOnSheet, DifferenceOnSheet}
 use Rattle.sequence.proofs.Multiply.{multiply-exact, signed-multiply-exact}
 use Rattle.sequence.proofs.Divide.{divide-exact}
+use Rattle.sequence.proofs.SignedDivide.{signed-divide-exact}
+use Rattle.sequence.proofs.SingleDivide.{single-divide-exact}
 use Rattle.sequence.proofs.Decimal.{each, decimal-sums-exact, decimal-differences-exact}
 
 module _ (s file : List ℕ) (m : Machine) (start : ℕ) (call : Accepted s file m start) where
+  sane : Sane (entering file m)
+  sane = entering-sane file m (call .registers) (call .q)
+
   module _ (ws : List Word) (stands : Stands s start ws) where
     -- the call runs the words, and them alone
     runs : runOn s file m start ws ≡ ran ws (entering file m)
@@ -40,8 +47,7 @@ module _ (s file : List ℕ) (m : Machine) (start : ℕ) (call : Accepted s file
 
     -- A run of words that stand in an accepted sheet is done, counts them, and hands back what they leave one after another.
     pub run-leaves : handed (runOn s file m start ws) ≡ execs ws (entering file m)
-    run-leaves =
-        ap handed runs ∙ back (execs ws (entering file m)) (execs-sane (length file) ws (entering file m) fit (entering-sane file m (call .registers) (call .q)))
+    run-leaves = ap handed runs ∙ back (execs ws (entering file m)) (execs-sane (length file) ws (entering file m) fit sane)
 
     pub run-counts : (runOn s file m start ws .answer .reason ≡ Done) × (runOn s file m start ws .answer .place ≡ length ws)
     run-counts = (ap (λ (e : Ended). e .answer .reason) runs, ap (λ (e : Ended). e .answer .place) runs)
@@ -80,6 +86,25 @@ module _ (s file : List ℕ) (m : Machine) (start : ℕ) (call : Accepted s file
   sheet-divides w a b idle h1 h4 ab stands hd hb =
       subst (λ (t : State). Divided (bitsIn w) a b (entering file m) t) (sym (run-leaves (divideWords w a b idle) stands))
       (divide-exact w a b idle (entering file m) h1 h4 ab (first-ready _ _ stands .b) (call .registers a) hd hb)
+
+  -- SIGNED DIVIDE ON A SHEET. With a divisor that is not zero in register D, zero in the selected bytes of register O, and a dividend of two halves in
+  -- register R and Q whose quotient fits: register K gets the quotient, cut towards zero, and register R the remainder, all in two's complement.
+  pub sheet-divides-signed : (w : ℕ) (r : Registers) (idle : ℕ → Idle) (free : ℕ → Unread) → 1 ≤ w → w ≤ 4 → Different r → Stands s start (signedDivideWords w r idle free)
+      → register (bitsIn w) (r .D) (entering file m) ≢ 0 → register (bitsIn w) (r .O) (entering file m) ≡ 0
+      → Fits (bitsIn w) (quotZ (longDividend (bitsIn w) r (entering file m)) (signedIn (bitsIn w) (r .D) (entering file m)))
+      → SignedDivided (bitsIn w) (longDividend (bitsIn w) r (entering file m)) r (entering file m) (handed (runOn s file m start (signedDivideWords w r idle free)))
+  sheet-divides-signed w r idle free h1 h4 different stands hd ho fits =
+      subst (SignedDivided (bitsIn w) (longDividend (bitsIn w) r (entering file m)) r (entering file m)) (sym (run-leaves (signedDivideWords w r idle free) stands))
+      (signed-divide-exact w r idle free (entering file m) h1 h4 different (fit (signedDivideWords w r idle free) stands) sane hd ho fits)
+
+  -- SIGNED DIVIDE, SINGLE LENGTH, ON A SHEET. A dividend in register x likewise, but for the most negative over -1.
+  pub sheet-divides-single : (w x : ℕ) (r : Registers) (load sign : Unread) (idle : ℕ → Idle) (free : ℕ → Unread) → 1 ≤ w → w ≤ 4 → Different r
+      → Stands s start (singleDivideWords w x r load sign idle free)
+      → register (bitsIn w) (r .D) (entering file m) ≢ 0 → register (bitsIn w) (r .O) (entering file m) ≡ 0 → (TooLarge (bitsIn w) x r (entering file m) → ⊥)
+      → SignedDivided (bitsIn w) (signedIn (bitsIn w) x (entering file m)) r (entering file m) (handed (runOn s file m start (singleDivideWords w x r load sign idle free)))
+  sheet-divides-single w x r load sign idle free h1 h4 different stands hd ho large =
+      subst (SignedDivided (bitsIn w) (signedIn (bitsIn w) x (entering file m)) r (entering file m)) (sym (run-leaves (singleDivideWords w x r load sign idle free) stands))
+      (single-divide-exact w x r load sign idle free (entering file m) h1 h4 different (fit (singleDivideWords w x r load sign idle free) stands) sane hd ho large)
 
   -- the two words of a decimal operation stand soundly at the chip, on registers of the file
   module _ (o : DecimalOperation) (correction : ℕ) (d : Layout) (stands : Stands s start (decimalWords (o .opcode) correction d)) where

@@ -2,22 +2,21 @@
 use mathlib.Core.Path.{_≡_, refl, sym, ap, ap₂, _∙_, subst}
 use mathlib.Core.Logic.{_≢_, _⊎_, inl, inr}
 use Prim.Native.Nat.{ℕ, zero, suc, _+_, _-_, _*_, _/_, _%_, _^_, _<_, _≤_}
-use native.Mathlib.Nat.{mod-lt, mod-le, mod-eq-of-lt, div-le-self, mul-le-mul-right}
-use native.Mathlib.Decide.{decLe}
+use native.Mathlib.Nat.{mod-lt, mod-le, mod-eq-of-lt, div-le-self}
 use native.Mathlib.Omega.{arith}
-use lib.Arith.{digits-mod}
+use lib.Arith.{digits-mod, digits-lt}
 use borrow.Author.Tests.{le-ltb}
 use lib.Pow.{pow-pos, pow-add}
 use lib.IntN.{ℤ, pos, negsuc, negℤ, subℕ, _+ℤ_, _*ℤ_, natAbs}
 use lib.Signed.{ltZ, mag, nonNeg, quotZ, remZ}
 use Rattle.bits.specs.Bits.{choose, flag, xor, signOf}
 use Rattle.bits.proofs.BitByBit.{by-flag}
-use Rattle.sequence.specs.Signed.{signed, signedLong}
+use Rattle.sequence.specs.Signed.{signed}
 use Rattle.sequence.specs.Results.{negative}
 use Rattle.sequence.proofs.Integers.{pos-sub, neg-sub, sub-same, sub-sum, sub-product}
 use Rattle.sequence.proofs.Lists.{sign-top}
-use Rattle.sequence.proofs.MultiplyNumbers.{top}
-use Rattle.sequence.proofs.SignedDivideNumbers.{Divisor, top-low, top-high}
+use Rattle.sequence.proofs.TopBit.{top, top-low, top-high, Top, Top.clear, Top.full, top-is}
+use Rattle.sequence.proofs.SignedDivideNumbers.{Divisor}
 use Rattle.sequence.proofs.SignedCorrections.{residue, Size, Size.as-it-is, Size.complemented}
 
 -- v, or minus v where f is 1
@@ -161,25 +160,6 @@ sized-fits f v H hf hH h = by-flag (λ (f : ℕ). v < H + f → mag (sized f v) 
 abbrev pub sizeOf : ℕ → ℕ → ℕ
 sizeOf W x = choose (top W x) x (W - x)
 
--- the top bit is 0 or 1
-pub data Top (W x : ℕ) : Type 0 where
-  clear : top W x ≡ 0 → 2 * x < W → Top W x
-  full : top W x ≡ 1 → W ≤ 2 * x → Top W x
-
-pub top-is : (W x : ℕ) → x < W → Top W x
-top-is W x h = pick (decLe W (2 * x))
-  where
-    pick : Dec (W ≤ 2 * x) → Top W x
-    pick (yes l) = full (top-high W x l h) l
-    pick (no l) = clear (top-low W x (omega arith)) (omega arith)
-
-pub top-lt : (W x : ℕ) → x < W → top W x < 2
-top-lt W x h = tell (top-is W x h)
-  where
-    tell : Top W x → top W x < 2
-    tell (clear e l) = omega arith
-    tell (full e l) = omega arith
-
 pub signed-sized : (n x : ℕ) → 1 ≤ n → signed n x ≡ sized (top (2 ^ n) (x % 2 ^ n)) (sizeOf (2 ^ n) (x % 2 ^ n))
 signed-sized n x h = ap (λ (s : ℕ). subℕ (x % 2 ^ n) (s * 2 ^ n)) (sign-top n x h) ∙ tell (top-is (2 ^ n) (x % 2 ^ n) l)
   where
@@ -198,27 +178,21 @@ divisor-of W x h p = tell (top-is W x h)
     tell (clear e l) = rw e (record { positive = p; half = omega arith; sign = e; size = inl (refl, refl) })
     tell (full e l) = rw e (record { positive = omega arith; half = omega arith; sign = e; size = inr (refl, omega arith) })
 
--- a dividend of two halves has the sign of its high half
-pub long-top : (W H R Q : ℕ) → W ≡ 2 * H → R < W → Q < W → top (W * W) (R * W + Q) ≡ top W R
-long-top W H R Q hW hR hQ = tell (top-is W R hR)
+-- a dividend of two halves R and Q: its sign is that of R
+abbrev pub longSize : ℕ → ℕ → ℕ → ℕ
+longSize W R Q = choose (top W R) (R * W + Q) (W * W - (R * W + Q))
+
+pub long-size : (W R Q : ℕ) → R < W → Q < W → Size W R Q (top W R) (longSize W R Q)
+long-size W R Q hR hQ = tell (top-is W R hR)
   where
-    tell : Top W R → top (W * W) (R * W + Q) ≡ top W R
-    tell (clear e l) = top-low (W * W) (R * W + Q) (omega (arith, mul-le-mul-right {m = 2 * R + 2} {n = W} W (omega arith))) ∙ sym e
-    tell (full e l) = top-high (W * W) (R * W + Q) (omega (arith, mul-le-mul-right {m = W} {n = 2 * R} W l)) (omega (arith, mul-le-mul-right {m = R + 1} {n = W} W (omega arith))) ∙ sym e
+    tell : Top W R → Size W R Q (top W R) (longSize W R Q)
+    tell (clear e l) = rw e (as-it-is refl refl)
+    tell (full e l) = rw e (complemented refl (omega (arith, digits-lt {q = R} {m = W} {r = Q} {c = W} hR hQ)))
 
-pub long-signed : (n high low : ℕ) → 1 ≤ n → high < 2 ^ n → low < 2 ^ n → signedLong n high low ≡ subℕ (high * 2 ^ n + low) (top (2 ^ n) high * (2 ^ n * 2 ^ n))
-long-signed n high low h hh hl =
-    ap (λ (s : ℕ). subℕ ((high * 2 ^ n + low) % 2 ^ (2 * n)) (s * 2 ^ (2 * n))) (sign-top (2 * n) (high * 2 ^ n + low) (omega arith))
-    ∙ ap (λ (w : ℕ). subℕ ((high * 2 ^ n + low) % w) (top w ((high * 2 ^ n + low) % w) * w)) (ap (λ (k : ℕ). 2 ^ k) (omega arith) ∙ pow-add 2 n n)
-    ∙ ap (λ (v : ℕ). subℕ v (top (2 ^ n * 2 ^ n) v * (2 ^ n * 2 ^ n))) (mod-eq-of-lt (omega (arith, mul-le-mul-right {m = high + 1} {n = 2 ^ n} (2 ^ n) (omega arith))))
-    ∙ ap (λ (s : ℕ). subℕ (high * 2 ^ n + low) (s * (2 ^ n * 2 ^ n))) (long-top (2 ^ n) (2 ^ (n - 1)) high low (ap (λ (k : ℕ). 2 ^ k) (omega arith) ∙ pow-add 2 1 (n - 1)) hh hl)
-
-pub long-size : (W H R Q : ℕ) → W ≡ 2 * H → R < W → Q < W → Size W R Q (top W R) (sizeOf (W * W) (R * W + Q))
-long-size W H R Q hW hR hQ = tell (top-is W R hR)
+pub long-sized : (W R Q : ℕ) → R < W → Q < W → subℕ (R * W + Q) (top W R * W * W) ≡ sized (top W R) (longSize W R Q)
+long-sized W R Q hR hQ = tell (top-is W R hR)
   where
-    t : top (W * W) (R * W + Q) ≡ top W R
-    t = long-top W H R Q hW hR hQ
-
-    tell : Top W R → Size W R Q (top W R) (sizeOf (W * W) (R * W + Q))
-    tell (clear e l) = rw (t, e) (as-it-is refl refl)
-    tell (full e l) = rw (t, e) (complemented refl (omega (arith, mul-le-mul-right {m = R + 1} {n = W} W (omega arith))))
+    tell : Top W R → subℕ (R * W + Q) (top W R * W * W) ≡ sized (top W R) (longSize W R Q)
+    tell (clear e l) = rw e (sub-same (R * W + Q) (0 * W * W) (R * W + Q) 0 (omega arith) ∙ sym (pos-sub (R * W + Q)))
+    tell (full e l) =
+        rw e (sub-same (R * W + Q) (1 * W * W) 0 (W * W - (R * W + Q)) (omega (arith, digits-lt {q = R} {m = W} {r = Q} {c = W} hR hQ)) ∙ sym (neg-sub (W * W - (R * W + Q))))

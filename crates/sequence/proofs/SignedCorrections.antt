@@ -12,9 +12,9 @@ use borrow.Author.Tests.{ne-eqb}
 use Rattle.bits.specs.Bits.{choose, flag, xor}
 use Rattle.bits.proofs.BitByBit.{by-flag}
 use Rattle.sequence.proofs.Lists.{Work}
-use Rattle.sequence.proofs.MultiplyNumbers.{top}
+use Rattle.sequence.proofs.TopBit.{top, top-low, top-high}
 use Rattle.sequence.proofs.DivideNumbers.{operandOf}
-use Rattle.sequence.proofs.SignedDivideNumbers.{likeSigns, Divisor, Out, Out.upper, Out.lower, Bits, Bits.same, Bits.complement, Done, top-low, top-high}
+use Rattle.sequence.proofs.SignedDivideNumbers.{likeSigns, Divisor, Out, Out.upper, Out.lower, Bits, Bits.same, Bits.complement, Done}
 
 -- v, or its two's complement where f is 1
 abbrev pub residue : ℕ → ℕ → ℕ → ℕ

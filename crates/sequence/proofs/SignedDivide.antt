@@ -7,7 +7,7 @@ use native.Mathlib.Nat.{mod-lt, pos-of-ne-zero}
 use native.Mathlib.Omega.{arith}
 use lib.ListN.{length}
 use lib.IntN.{ℤ}
-use lib.Signed.{mag, quotZ}
+use lib.Signed.{quotZ}
 use Rattle.bits.specs.Bits.{selected, signOf, merged}
 use Rattle.machine.specs.Status.{Good}
 use Rattle.chip.specs.declared.Word.{Word}
@@ -18,6 +18,7 @@ use Rattle.sheet.proofs.Positions.{All}
 use Rattle.sheet.proofs.Positions.All.{none, more}
 use Rattle.run.specs.Run.{Sane}
 use Rattle.run.proofs.Laws.{execs-sane}
+use Rattle.sequence.specs.Signed.{Fits}
 use Rattle.sequence.specs.Sequences.{Idle, Registers, Different, Unread, bitsIn, codeOf, wordsOf, times, correctionWords, signedDivideOpcodes, signedDivideWords}
 use Rattle.sequence.specs.Results.{register, lowQ, signedIn, longDividend, SignedDivided}
 use Rattle.sequence.proofs.Lists.{bits-of-bytes}
@@ -50,7 +51,7 @@ quotient-in w r free k (more _ (more _ (more _ (more _ (more _ (more p a)))))) =
 pub signed-divide-exact :
     (w : ℕ) (r : Registers) (idle : ℕ → Idle) (free : ℕ → Unread) (t : State) → 1 ≤ w → w ≤ 4 → Different r →
     All (WordReady (length (t .file))) (signedDivideWords w r idle free) → Sane t → register (bitsIn w) (r .D) t ≢ 0 → register (bitsIn w) (r .O) t ≡ 0 →
-    mag (quotZ (longDividend (bitsIn w) r t) (signedIn (bitsIn w) (r .D) t)) < 2 ^ (bitsIn w - 1) →
+    Fits (bitsIn w) (quotZ (longDividend (bitsIn w) r t) (signedIn (bitsIn w) (r .D) t)) →
     SignedDivided (bitsIn w) (longDividend (bitsIn w) r t) r t (execs (signedDivideWords w r idle free) t)
 signed-divide-exact w r idle free t h1 h4 different ready sane hD hO fit =
     subst (SignedDivided n (longDividend n r t) r t) (sym (execs-append steps (correctionWords w r free) t))

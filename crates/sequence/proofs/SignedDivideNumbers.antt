@@ -12,7 +12,7 @@ use lib.Pow.{pow-pos}
 use lib.Arith.{digits-div, digits-mod}
 use Rattle.bits.specs.Bits.{xor}
 use Rattle.sequence.proofs.Lists.{Work}
-use Rattle.sequence.proofs.MultiplyNumbers.{top}
+use Rattle.sequence.proofs.TopBit.{top, top-low, top-high}
 use Rattle.sequence.proofs.DivideNumbers.{operandOf, top-q, shift-q}
 
 -- ---- the words on numbers
@@ -54,15 +54,6 @@ data Rel (W E δ M B p r : ℕ) : Type 0 where
 pub data Out (W E r F : ℕ) : Type 0 where
   upper : E ≤ r → F + E ≡ r → top W F ≡ 0 → Out W E r F
   lower : r < E → F + E ≡ r + W → top W F ≡ 1 → Out W E r F
-
-pub top-low : (W F : ℕ) → 2 * F < W → top W F ≡ 0
-top-low W F h = div-eq-of-lt h
-
-pub top-high : (W F : ℕ) → W ≤ 2 * F → F < W → top W F ≡ 1
-top-high W F h l = ap (λ (x : ℕ). x / W) s ∙ digits-div 1 {m = W} {r = 2 * F - W} (omega arith)
-  where
-    s : 2 * F ≡ 1 * W + (2 * F - W)
-    s = omega arith
 
 -- what is taken away or added back is E, modulo W
 operand-is : (W A E δ M B p r : ℕ) → Divisor W A E δ → Rel W E δ M B p r → (B + operandOf W A M) % W ≡ (r + (W - E)) % W

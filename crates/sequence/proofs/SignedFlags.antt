@@ -24,7 +24,7 @@ use Rattle.chip.specs.Glossary.{performOf}
 use Rattle.chip.specs.Lists.{State, state, readAt, storeAt, inputsOf, stepOf, execs}
 use Rattle.sequence.specs.Sequences.{Idle, Registers, Unread, wordOf, looking, onStatus}
 use Rattle.sequence.proofs.Lists.{merged-low, merged-high, sign-top}
-use Rattle.sequence.proofs.MultiplyNumbers.{top}
+use Rattle.sequence.proofs.TopBit.{top}
 use Rattle.sequence.proofs.DivideNumbers.{operandOf}
 use Rattle.sequence.proofs.SignedSteps.{low-sum}
 use Rattle.sequence.proofs.SignedCorrections.{signFor, specialZ, byOne}

@@ -11,7 +11,7 @@ use lib.Arith.{digits-mod}
 use lib.Pow.{pow-pos, pow-add}
 use lib.ListN.{length}
 use lib.IntN.{ℤ, pos, negsuc, negℤ, subℕ, _+ℤ_, _*ℤ_, natAbs}
-use lib.Signed.{mag, nonNeg, quotZ, remZ}
+use lib.Signed.{nonNeg, quotZ, remZ}
 use Rattle.bits.specs.Bits.{selected, choose, flag, xor, signOf, zeroOf, merged}
 use Rattle.bits.proofs.BitByBit.{by-flag}
 use Rattle.bits.proofs.Bounds.{flag-lt}
@@ -19,11 +19,12 @@ use Rattle.machine.specs.declared.Status.{Status}
 use Rattle.machine.specs.Status.{Good, withC, withN, withV, withZ, withL, withM, withS}
 use Rattle.chip.specs.Lists.{State, state, readAt, storeAt, stepOf, execs}
 use Rattle.chip.proofs.Files.{store-length, read-same, read-other}
-use Rattle.sequence.specs.Signed.{signed}
+use Rattle.sequence.specs.Signed.{Fits}
 use Rattle.sequence.specs.Sequences.{Registers, Different, Unread, codeOf, wordOf, correctionWords}
 use Rattle.sequence.specs.Results.{register, lowQ, signedIn, longDividend, negative, oddK, zeroR, uncorrected, signedDividedStatus, Apart, SignedDivided}
+use Rattle.sequence.proofs.Integers.{signed-long}
 use Rattle.sequence.proofs.Lists.{view, merged-low, merged-high, bits-of-bytes, sign-top}
-use Rattle.sequence.proofs.MultiplyNumbers.{top}
+use Rattle.sequence.proofs.TopBit.{top, top-lt}
 use Rattle.sequence.proofs.DivideNumbers.{operandOf}
 use Rattle.sequence.proofs.Divide.{steady}
 use Rattle.sequence.proofs.SignedDivideNumbers.{Divisor, Out}
@@ -31,7 +32,7 @@ use Rattle.sequence.proofs.SignedCorrections.{residue, byOne, is-zero, 
 use Rattle.sequence.proofs.SignedSteps.{Stepped, signed-steps}
 use Rattle.sequence.proofs.SignedFlags.{zeroLeft, flagged, five, special-is, sign-for}
 use Rattle.sequence.proofs.SignedTail.{tests, remainderTests, quotient, remainder, carry, counted, three, quotient-low, remainder-low, carry-low}
-use Rattle.sequence.proofs.SignAndSize.{sized, sizeOf, top-lt, divisor-of, long-top, long-size, signed-sized, residue-signed, quotient-sized, remainder-sized, whole-sized, size-of, like-sign, negative-sized, fits-sized}
+use Rattle.sequence.proofs.SignAndSize.{sized, sizeOf, divisor-of, longSize, long-size, long-sized, signed-sized, residue-signed, quotient-sized, remainder-sized, whole-sized, size-of, like-sign, negative-sized, fits-sized}
 
 -- ---- the eight words after SDIVLAST1, with n bits selected, from state u to state z
 abbrev pub flags : ℕ → Registers → State → Status
@@ -127,7 +128,7 @@ back W M Q e hQ hW hM he =
 -- there, and k and y those of the sizes
 module _ (n : ℕ) (r : Registers) (t : State) (hn : 1 ≤ n) (hn' : n ≤ 32) (different : Different r)
     (wordD : readAt (t .file) (r .D) < 2 ^ 32) (wordO : readAt (t .file) (r .O) < 2 ^ 32) (hO : register n (r .O) t ≡ 0) (hD : 0 < register n (r .D) t)
-    (fit : mag (quotZ (longDividend n r t) (signedIn n (r .D) t)) < 2 ^ (n - 1)) where
+    (fit : Fits n (quotZ (longDividend n r t) (signedIn n (r .D) t))) where
   abbrev W : ℕ
   W = 2 ^ n
 
@@ -144,7 +145,7 @@ module _ (n : ℕ) (r : Registers) (t : State) (hn : 1 ≤ n) (hn' : n ≤ 32) (
   E = sizeOf (2 ^ n) (register n (r .D) t)
 
   abbrev Y : ℕ
-  Y = sizeOf (2 ^ n * 2 ^ n) (register n (r .R) t * 2 ^ n + lowQ n t)
+  Y = longSize (2 ^ n) (register n (r .R) t) (lowQ n t)
 
   abbrev X : ℤ
   X = longDividend n r t
@@ -171,7 +172,7 @@ module _ (n : ℕ) (r : Registers) (t : State) (hn : 1 ≤ n) (hn' : n ≤ 32) (
   divisor = divisor-of W (register n (r .D) t) low-d hD
 
   size : Size W (register n (r .R) t) (lowQ n t) ρ Y
-  size = long-size W H (register n (r .R) t) (lowQ n t) hW low-r low-q
+  size = long-size W (register n (r .R) t) (lowQ n t) low-r low-q
 
   -- the integers by sign and size
   divisor-is : signedIn n (r .D) t ≡ sized δ E
@@ -179,18 +180,12 @@ module _ (n : ℕ) (r : Registers) (t : State) (hn : 1 ≤ n) (hn' : n ≤ 32) (
 
   dividend-is : X ≡ sized ρ Y
   dividend-is =
-      signed-sized (2 * n) (register n (r .R) t * 2 ^ n + lowQ n t) (omega arith)
-      ∙ ap₂ (λ (v x : ℕ). sized (top v x) (sizeOf v x)) double (ap (λ (v : ℕ). (register n (r .R) t * 2 ^ n + lowQ n t) % v) double ∙ mod-eq-of-lt below)
-      ∙ ap (λ (f : ℕ). sized f Y) (long-top W H (register n (r .R) t) (lowQ n t) hW low-r low-q)
-    where
-      double : 2 ^ (2 * n) ≡ 2 ^ n * 2 ^ n
-      double = ap (λ (k : ℕ). 2 ^ k) (omega arith) ∙ pow-add 2 n n
-
-      below : register n (r .R) t * 2 ^ n + lowQ n t < 2 ^ n * 2 ^ n
-      below = omega (arith, low-q, mul-le-mul-right {m = register n (r .R) t + 1} {n = 2 ^ n} (2 ^ n) (omega (arith, low-r)))
+      signed-long n (readAt (t .file) (r .R)) (t .core .q) hn
+      ∙ ap (λ (s : ℕ). subℕ (register n (r .R) t * 2 ^ n + lowQ n t) (s * 2 ^ n * 2 ^ n)) (sign-top n (readAt (t .file) (r .R)) hn)
+      ∙ long-sized W (register n (r .R) t) (lowQ n t) low-r low-q
 
   fits : Y / E < H + xor ρ δ
-  fits = fits-sized (xor ρ δ) (Y / E) H (mod-lt (ρ + δ) (omega arith)) (subst (λ (v : ℤ). mag v < H) (ap₂ quotZ dividend-is divisor-is ∙ quotient-sized ρ δ Y E hρ hδ (divisor .positive)) fit)
+  fits = fits-sized (xor ρ δ) (Y / E) H (mod-lt (ρ + δ) (omega arith)) (subst (Fits n) (ap₂ quotZ dividend-is divisor-is ∙ quotient-sized ρ δ Y E hρ hδ (divisor .positive)) fit)
 
   start : Begun W E (register n (r .R) t) (lowQ n t) ρ Y
   start = begun W E (register n (r .R) t) (lowQ n t) ρ Y (Y / E) (Y % E) size refl low-r low-q (sym (div-add-mod' Y E)) (mod-lt Y (divisor .positive)) (omega (arith, fits, hW, hρ, hδ, pow-pos (n - 1)))

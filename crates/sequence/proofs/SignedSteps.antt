@@ -19,7 +19,7 @@ use Rattle.chip.specs.Lists.{State, readAt, inputsOf, stepOf, execs}
 use Rattle.sequence.specs.Sequences.{Idle, bitsIn, codeOf, wordOf, wordsOf, times, signedDivideOpcodes}
 use Rattle.sequence.specs.Results.{register, lowQ, Untouched}
 use Rattle.sequence.proofs.Lists.{Work, view, before, after, Acts, acts-from, carried-back, Reached, start, next, repeated, in-file, word-status, word-y, merged-low, merged-high, bits-of-bytes, sign-top, not-cut, cut-sum}
-use Rattle.sequence.proofs.MultiplyNumbers.{top}
+use Rattle.sequence.proofs.TopBit.{top}
 use Rattle.sequence.proofs.DivideNumbers.{operandOf}
 use Rattle.sequence.proofs.Divide.{upshifted-cut, steady, Fits, FlagM}
 use Rattle.sequence.proofs.SignedDivideNumbers.{signedF, likeSigns, signedFirst, signedStep, signedLast, Divisor, Out, Left, step-left, first-left, flag-m, Done, last-done}

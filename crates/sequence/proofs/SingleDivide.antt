@@ -9,7 +9,7 @@ use native.Mathlib.Omega.{arith}
 use lib.Pow.{pow-pos, pow-add}
 use lib.ListN.{length}
 use lib.IntN.{ℤ, subℕ, _+ℤ_, _*ℤ_, natAbs}
-use lib.Signed.{mag, quotZ, remZ}
+use lib.Signed.{quotZ, remZ}
 use Rattle.bits.specs.Bits.{selected, choose, xor, signOf, merged, notOf, copies}
 use Rattle.bits.proofs.BitByBit.{by-flag, bit-lt}
 use Rattle.machine.specs.Status.{withZ, withM}
@@ -25,14 +25,14 @@ use Rattle.sheet.proofs.Positions.{All}
 use Rattle.sheet.proofs.Positions.All.{none, more}
 use Rattle.run.specs.Run.{Sane}
 use Rattle.run.proofs.Laws.{step-sane}
-use Rattle.sequence.specs.Signed.{signed, signedLong}
+use Rattle.sequence.specs.Signed.{signed, Fits}
 use Rattle.sequence.specs.Sequences.{Idle, Registers, Different, Unread, bitsIn, codeOf, wordOf, looking, signedDivideWords, singleDivideWords}
 use Rattle.sequence.specs.Results.{register, lowQ, signedIn, longDividend, TooLarge, negative, oddK, zeroR, signedDividedStatus, SignedDivided}
-use Rattle.sequence.proofs.Integers.{sub-same}
+use Rattle.sequence.proofs.Integers.{sub-same, signed-long}
 use Rattle.sequence.proofs.Lists.{merged-low, merged-high, bits-of-bytes, sign-top, not-cut}
-use Rattle.sequence.proofs.MultiplyNumbers.{top}
-use Rattle.sequence.proofs.SignedDivideNumbers.{Divisor, top-low, top-high}
-use Rattle.sequence.proofs.SignAndSize.{sized, sizeOf, Top, Top.clear, Top.full, top-is, top-lt, divisor-of, long-signed, signed-sized, quotient-sized, sized-fits}
+use Rattle.sequence.proofs.TopBit.{top, top-low, top-high, Top, Top.clear, Top.full, top-is, top-lt}
+use Rattle.sequence.proofs.SignedDivideNumbers.{Divisor}
+use Rattle.sequence.proofs.SignAndSize.{sizeOf, divisor-of, signed-sized, quotient-sized, sized-fits}
 use Rattle.sequence.proofs.SignedDivide.{signed-divide-exact}
 
 -- ---- the two words: the dividend in Q, and its sign in every bit of register R
@@ -53,37 +53,28 @@ copies-low n f h hf =
     by-flag (λ (f : ℕ). copies f % 2 ^ n ≡ f * (2 ^ n - 1)) (mod-eq-of-lt (pow-pos n) ∙ omega arith)
     (ap (λ (v : ℕ). v % 2 ^ n) (omega arith) ∙ not-cut n 0 h (omega arith) ∙ ap (λ (v : ℕ). 2 ^ n - 1 - v) (mod-eq-of-lt (pow-pos n)) ∙ omega arith) f hf
 
--- the sign bit in every bit of the high half
-spread : (n x : ℕ) → 1 ≤ n → signedLong n (signOf n x * (2 ^ n - 1)) (x % 2 ^ n) ≡ signed n x
-spread n x h =
-    by-flag (λ (f : ℕ). signedLong n (f * (2 ^ n - 1)) (x % 2 ^ n) ≡ subℕ (x % 2 ^ n) (f * 2 ^ n)) zeros ones (signOf n x) (bit-lt (n - 1) x)
+-- of a number with the sign bit f in every bit of its high half two's complement takes off what it takes off the low half
+spread : (W x f : ℕ) → 0 < W → f < 2 → subℕ (f * (W - 1) * W + x) (f * W * W) ≡ subℕ x (f * W)
+spread W x f h hf = by-flag (λ (f : ℕ). subℕ (f * (W - 1) * W + x) (f * W * W) ≡ subℕ x (f * W)) (sub-same _ (0 * W * W) x (0 * W) (omega arith)) ones f hf
   where
-    low : x % 2 ^ n < 2 ^ n
-    low = mod-lt x (pow-pos n)
-
-    two : 2 ^ n ≡ 2 * 2 ^ (n - 1)
-    two = ap (λ (k : ℕ). 2 ^ k) (omega arith) ∙ pow-add 2 1 (n - 1)
-
-    zeros : signedLong n (0 * (2 ^ n - 1)) (x % 2 ^ n) ≡ subℕ (x % 2 ^ n) (0 * 2 ^ n)
-    zeros =
-        ap (λ (v : ℕ). signedLong n v (x % 2 ^ n)) (omega arith) ∙ long-signed n 0 (x % 2 ^ n) h (pow-pos n) low
-        ∙ ap (λ (f : ℕ). subℕ (0 * 2 ^ n + x % 2 ^ n) (f * (2 ^ n * 2 ^ n))) (top-low (2 ^ n) 0 (pow-pos n))
-        ∙ sub-same (0 * 2 ^ n + x % 2 ^ n) (0 * (2 ^ n * 2 ^ n)) (x % 2 ^ n) (0 * 2 ^ n) (omega arith)
-
-    ones : signedLong n (1 * (2 ^ n - 1)) (x % 2 ^ n) ≡ subℕ (x % 2 ^ n) (1 * 2 ^ n)
+    ones : subℕ (1 * (W - 1) * W + x) (1 * W * W) ≡ subℕ x (1 * W)
     ones =
-        let e : (2 ^ n - 1) * 2 ^ n + 2 ^ n ≡ 2 ^ n * 2 ^ n = omega (arith, ap (λ (v : ℕ). v * 2 ^ n) whole) in
-        long-signed n (1 * (2 ^ n - 1)) (x % 2 ^ n) h (omega (arith, pow-pos n)) low
-        ∙ ap (λ (f : ℕ). subℕ (1 * (2 ^ n - 1) * 2 ^ n + x % 2 ^ n) (f * (2 ^ n * 2 ^ n))) (top-high (2 ^ n) (1 * (2 ^ n - 1)) (omega (arith, two, pow-pos (n - 1))) (omega (arith, pow-pos n)))
-        ∙ sub-same (1 * (2 ^ n - 1) * 2 ^ n + x % 2 ^ n) (1 * (2 ^ n * 2 ^ n)) (x % 2 ^ n) (1 * 2 ^ n) (omega (arith, e))
-      where
-        whole : 2 ^ n - 1 + 1 ≡ 2 ^ n
-        whole = omega (arith, pow-pos n)
+        let e : W - 1 + 1 ≡ W = omega arith in
+        sub-same (1 * (W - 1) * W + x) (1 * W * W) x (1 * W) (omega (arith, ap (λ (v : ℕ). v * W) e))
+
+-- and the sign bit is f
+spread-sign : (n f : ℕ) → 1 ≤ n → f < 2 → top (2 ^ n) (f * (2 ^ n - 1)) ≡ f
+spread-sign n f h hf =
+    let two : 2 ^ n ≡ 2 * 2 ^ (n - 1) = ap (λ (k : ℕ). 2 ^ k) (omega arith) ∙ pow-add 2 1 (n - 1) in
+    by-flag (λ (f : ℕ). top (2 ^ n) (f * (2 ^ n - 1)) ≡ f)
+    (top-low (2 ^ n) (0 * (2 ^ n - 1)) (omega (arith, pow-pos n)))
+    (top-high (2 ^ n) (1 * (2 ^ n - 1)) (omega (arith, two, pow-pos (n - 1))) (omega (arith, pow-pos n)))
+    f hf
 
 -- ---- its quotient fits, but for the most negative number over -1
-fits : (n x d : ℕ) → 1 ≤ n → 0 < d % 2 ^ n → ((x % 2 ^ n ≡ 2 ^ (n - 1)) × (d % 2 ^ n ≡ 2 ^ n - 1) → ⊥) → mag (quotZ (signed n x) (signed n d)) < 2 ^ (n - 1)
+fits : (n x d : ℕ) → 1 ≤ n → 0 < d % 2 ^ n → ((x % 2 ^ n ≡ 2 ^ (n - 1)) × (d % 2 ^ n ≡ 2 ^ n - 1) → ⊥) → Fits n (quotZ (signed n x) (signed n d))
 fits n x d h hd large =
-    subst (λ (v : ℤ). mag v < 2 ^ (n - 1)) (sym (ap₂ quotZ (signed-sized n x h) (signed-sized n d h) ∙ quotient-sized f δ v E (top-lt (2 ^ n) (x % 2 ^ n) low) (top-lt (2 ^ n) (d % 2 ^ n) low-d) (divisor .positive)))
+    subst (Fits n) (sym (ap₂ quotZ (signed-sized n x h) (signed-sized n d h) ∙ quotient-sized f δ v E (top-lt (2 ^ n) (x % 2 ^ n) low) (top-lt (2 ^ n) (d % 2 ^ n) low-d) (divisor .positive)))
     (sized-fits (xor f δ) (v / E) (2 ^ (n - 1)) (mod-lt (f + δ) (omega arith)) (pow-pos (n - 1)) (tell (top-is (2 ^ n) (x % 2 ^ n) low) (top-is (2 ^ n) (d % 2 ^ n) low-d)))
   where
     f : ℕ
@@ -152,12 +143,19 @@ module _ (n x : ℕ) (r : Registers) (t z : State) (hn : n ≤ 32) (different : 
   in-r : readAt (o .file) (r .R) ≡ word
   in-r = read-same (t .file) (r .R) word file-r
 
+  abbrev sign : ℕ
+  sign = signOf n (readAt (t .file) x)
+
+  low-r : readAt (o .file) (r .R) % 2 ^ n ≡ sign * (2 ^ n - 1)
+  low-r = ap (λ (v : ℕ). v % 2 ^ n) in-r ∙ merged-low n (copies sign) (readAt (t .file) (r .R)) ∙ copies-low n sign hn (bit-lt (n - 1) (readAt (t .file) x))
+
   dividend-is : 1 ≤ n → longDividend n r o ≡ signedIn n x t
   dividend-is h =
-      ap₂ (signedLong n)
-      (ap (λ (v : ℕ). v % 2 ^ n) in-r ∙ merged-low n (copies (signOf n (readAt (t .file) x))) (readAt (t .file) (r .R)) ∙ copies-low n (signOf n (readAt (t .file) x)) hn (bit-lt (n - 1) (readAt (t .file) x)))
-      (merged-low n (readAt (t .file) x) (t .core .q))
-      ∙ spread n (readAt (t .file) x) h
+      signed-long n (readAt (o .file) (r .R)) (o .core .q) h
+      ∙ ap₂ (λ (v f : ℕ). subℕ (v * 2 ^ n + o .core .q % 2 ^ n) (f * 2 ^ n * 2 ^ n)) low-r
+      (sign-top n (readAt (o .file) (r .R)) h ∙ ap (top (2 ^ n)) low-r ∙ spread-sign n sign h (bit-lt (n - 1) (readAt (t .file) x)))
+      ∙ ap (λ (v : ℕ). subℕ (sign * (2 ^ n - 1) * 2 ^ n + v) (sign * 2 ^ n * 2 ^ n)) (merged-low n (readAt (t .file) x) (t .core .q))
+      ∙ spread (2 ^ n) (readAt (t .file) x % 2 ^ n) sign (pow-pos n) (bit-lt (n - 1) (readAt (t .file) x))
 
   divisor-is : signedIn n (r .D) o ≡ signedIn n (r .D) t
   divisor-is = ap (signed n) (same (r .D) (different .divisor-remainder))
@@ -210,7 +208,7 @@ single-divide-exact w x r load sign idle free t h1 h4 different (more p (more q 
         (signed-divide-exact w r idle free o h1 h4 different (subst (λ (k : ℕ). All (WordReady k) words) (sym size) ready) good
         (λ d. hD (sym (alike (r .D) (different .divisor-remainder)) ∙ sym (ap (register n (r .D)) e) ∙ d))
         (ap (register n (r .O)) e ∙ alike (r .O) (different .zero-remainder) ∙ hO)
-        (subst (λ (v : ℤ). mag v < 2 ^ (n - 1)) (sym (ap₂ quotZ dividend divisor)) (fits n (readAt (t .file) x) (readAt (t .file) (r .D)) (omega arith) (pos-of-ne-zero hD) large)))))
+        (subst (Fits n) (sym (ap₂ quotZ dividend divisor)) (fits n (readAt (t .file) x) (readAt (t .file) (r .D)) (omega arith) (pos-of-ne-zero hD) large)))))
       where
         dividend : longDividend n r o ≡ signedIn n x t
         dividend = ap (longDividend n r) e ∙ dividend-is n x r t t (omega arith) different (q .y) (omega arith)
