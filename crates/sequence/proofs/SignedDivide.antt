@@ -55,7 +55,7 @@ pub signed-divide-exact :
     SignedDivided (bitsIn w) (longDividend (bitsIn w) r t) r t (execs (signedDivideWords w r idle free) t)
 signed-divide-exact w r idle free t h1 h4 different ready sane hD hO fit =
     subst (SignedDivided n (longDividend n r t) r t) (sym (execs-append steps (correctionWords w r free) t))
-    (result n r t (omega arith) (omega arith) different (sane .file (r .D)) (sane .file (r .O)) hO (pos-of-ne-zero hD) fit u z
+    (result n r t (omega arith) (omega arith) (omega arith) different (sane .file (r .D)) (sane .file (r .O)) hO (pos-of-ne-zero hD) fit u z
     (λ E δ s d hδ hs o. signed-steps w (r .D) (r .R) idle t E δ s h1 h4 (different .divisor-remainder) file-r (sane .file (r .D)) d hδ hs o) good whole)
   where
     n : ℕ

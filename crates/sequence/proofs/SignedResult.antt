@@ -8,6 +8,7 @@ use native.Mathlib.Decide.{decLe}
 use native.Mathlib.Omega.{arith}
 use lib.Dec.{eqb}
 use lib.Arith.{digits-mod}
+use borrow.Author.Tests.{ne-eqb}
 use lib.Pow.{pow-pos, pow-add}
 use lib.ListN.{length}
 use lib.IntN.{ℤ, pos, negsuc, negℤ, subℕ, _+ℤ_, _*ℤ_, natAbs}
@@ -21,7 +22,7 @@ use Rattle.chip.specs.Lists.{State, state, readAt, storeAt, stepOf, execs}
 use Rattle.chip.proofs.Files.{store-length, read-same, read-other}
 use Rattle.sequence.specs.Signed.{Fits}
 use Rattle.sequence.specs.Sequences.{Registers, Different, Unread, codeOf, wordOf, correctionWords}
-use Rattle.sequence.specs.Results.{register, lowQ, signedIn, longDividend, negative, oddK, zeroR, uncorrected, signedDividedStatus, Apart, SignedDivided}
+use Rattle.sequence.specs.Results.{register, lowQ, signedIn, longDividend, negative, uncorrected, SignedDivided}
 use Rattle.sequence.proofs.Integers.{signed-long}
 use Rattle.sequence.proofs.Lists.{view, merged-low, merged-high, bits-of-bytes, sign-top}
 use Rattle.sequence.proofs.TopBit.{top, top-lt}
@@ -31,7 +32,7 @@ use Rattle.sequence.proofs.SignedDivideNumbers.{Divisor, Out}
 use Rattle.sequence.proofs.SignedCorrections.{residue, byOne, is-zero, not-zero, signFor, specialZ, Corrected, Size, Size.as-it-is, Size.complemented, Begun, begun, end-corrected}
 use Rattle.sequence.proofs.SignedSteps.{Stepped, signed-steps}
 use Rattle.sequence.proofs.SignedFlags.{zeroLeft, flagged, five, special-is, sign-for}
-use Rattle.sequence.proofs.SignedTail.{tests, remainderTests, quotient, remainder, carry, counted, three, quotient-low, remainder-low, carry-low}
+use Rattle.sequence.proofs.SignedTail.{tests, remainderTests, quotient, remainder, carry, counted, three, quotient-low, remainder-low, carry-low, overflow-low}
 use Rattle.sequence.proofs.SignAndSize.{sized, sizeOf, divisor-of, longSize, long-size, long-sized, signed-sized, residue-signed, quotient-sized, remainder-sized, whole-sized, size-of, like-sign, negative-sized, fits-sized}
 
 -- ---- the eight words after SDIVLAST1, with n bits selected, from state u to state z
@@ -115,6 +116,29 @@ residue-zero W f v hf hv = by-flag (λ (f : ℕ). flag (eqb (residue W f v) 0) �
     go zero h = is-zero _ (ap (λ (x : ℕ). x % W) (omega arith) ∙ digits-mod 1 {m = W} {r = 0} (omega arith))
     go (suc v) h = not-zero _ (subst (λ (x : ℕ). 0 < x) (sym (mod-eq-of-lt {n = W - suc v} {m = W} (omega arith))) (omega arith)) ∙ sym (not-zero (suc v) (omega arith))
 
+-- a remainder by an even number is odd where the number is
+even-cut : (W H x : ℕ) → W ≡ 2 * H → x % W % 2 ≡ x % 2
+even-cut W H x hW = omega (arith, div-add-mod' x W, ap (λ (v : ℕ). x / W * v) hW)
+
+-- V, by the quotient after its correction: where it is not corrected it is odd
+overflow-told : (W H G M Q e : ℕ) → H ≡ 2 * G → Q % 2 ≡ 1 → M < 2 → e < 2
+    → choose (1 - e) 0 (choose M 0 (flag (eqb (byOne W M Q) H))) ≡ choose M 0 (flag (eqb (choose (1 - e) Q (byOne W M Q)) H))
+overflow-told W H G M Q e hH hQ hM he =
+    by-flag (λ (e : ℕ). choose (1 - e) 0 (choose M 0 (flag (eqb (byOne W M Q) H))) ≡ choose M 0 (flag (eqb (choose (1 - e) Q (byOne W M Q)) H))) refl
+    (by-flag (λ (M : ℕ). _≡_ {A = ℕ} 0 (choose M 0 0)) refl refl M hM ∙ sym (ap (choose M 0) (ap flag (ne-eqb Q H (λ z. absurd (omega arith)))))) e he
+
+-- L, by the remainder after its correction
+link-told : (W H A M B e : ℕ) → W ≡ 2 * H → A < W → M < 2 → e < 2 → B % 2 ≡ (choose (1 - e) B ((B + operandOf W A M) % W) + choose e A 0) % 2
+unfolding operandOf
+link-told W H A M B e hW hA hM he =
+    by-flag (λ (e : ℕ). B % 2 ≡ (choose (1 - e) B ((B + operandOf W A M) % W) + choose e A 0) % 2)
+    (by-flag (λ (M : ℕ). B % 2 ≡ ((B + operandOf W A M) % W + A) % 2) (omega (arith, even-cut W H (B + A) hW)) (omega (arith, even-cut W H (B + (W - A)) hW)) M hM)
+    (omega arith) e he
+
+parity : (W H x y e : ℕ) → W ≡ 2 * H → e < 2 → (x % W + choose e (y % W) 0) % 2 ≡ (x + choose e y 0) % 2
+parity W H x y e hW he =
+    by-flag (λ (e : ℕ). (x % W + choose e (y % W) 0) % 2 ≡ (x + choose e y 0) % 2) (omega (arith, even-cut W H x hW, even-cut W H y hW)) (omega (arith, even-cut W H x hW)) e he
+
 -- the quotient before its correction, from the one after it
 back : (W M Q e : ℕ) → Q < W → 0 < W → M < 2 → e < 2 → choose e ((choose (1 - e) Q (byOne W M Q) + choose M 1 (W - 1)) % W) (choose (1 - e) Q (byOne W M Q)) ≡ Q
 back W M Q e hQ hW hM he =
@@ -126,7 +150,7 @@ back W M Q e hQ hW hM he =
 
 -- ---- the division, from state t to state z, over the state u that SDIVLAST1 leaves, with n bits selected. B and Q are the remainder and the quotient
 -- there, and k and y those of the sizes
-module _ (n : ℕ) (r : Registers) (t : State) (hn : 1 ≤ n) (hn' : n ≤ 32) (different : Different r)
+module _ (n : ℕ) (r : Registers) (t : State) (hn : 1 ≤ n) (two : 2 ≤ n) (hn' : n ≤ 32) (different : Different r)
     (wordD : readAt (t .file) (r .D) < 2 ^ 32) (wordO : readAt (t .file) (r .O) < 2 ^ 32) (hO : register n (r .O) t ≡ 0) (hD : 0 < register n (r .D) t)
     (fit : Fits n (quotZ (longDividend n r t) (signedIn n (r .D) t))) where
   abbrev W : ℕ
@@ -278,10 +302,13 @@ module _ (n : ℕ) (r : Registers) (t : State) (hn : 1 ≤ n) (hn' : n ≤ 32) (
     remainder-value = residue-signed n (readAt (z .file) (r .R)) ρ y hn hρ (omega (arith, small, divisor .half)) remainder-in
 
     -- what is told afterwards
-    odd-is : oddK n r z ≡ odd
-    odd-is = ap (λ (v : ℕ). v % 2) (quotient-in ∙ ends .quotient) ∙ residue-odd W H (xor ρ δ) k hW hκ (omega (arith, fits, hκ)) (pow-pos (n - 1))
+    odd-low : register n (r .K) z % 2 ≡ odd
+    odd-low = ap (λ (v : ℕ). v % 2) (quotient-in ∙ ends .quotient) ∙ residue-odd W H (xor ρ δ) k hW hκ (omega (arith, fits, hκ)) (pow-pos (n - 1))
 
-    zero-is : zeroR n r z ≡ none
+    odd-is : readAt (z .file) (r .K) % 2 ≡ odd
+    odd-is = sym (even-cut W H (readAt (z .file) (r .K)) hW) ∙ odd-low
+
+    zero-is : zeroOf n (readAt (z .file) (r .R)) ≡ none
     unfolding zeroOf
     zero-is = ap (λ (v : ℕ). flag (eqb v 0)) remainder-in ∙ residue-zero W ρ y hρ (omega (arith, small, divisor .half))
 
@@ -315,33 +342,54 @@ module _ (n : ℕ) (r : Registers) (t : State) (hn : 1 ≤ n) (hn' : n ≤ 32) (
       };
       q =
           ap (λ (v : ℕ). v % 2 ^ n) (tail .q-kept)
-          ∙ sym ((λ i. choose (odd-is i) ((quotient-in i + choose (tail .left i .m) 1 (2 ^ n - 1)) % 2 ^ n) (quotient-in i)) ∙ back W M Q odd (mod-lt (u .core .q) (pow-pos n)) (pow-pos n) (good .m) odd-lt);
+          ∙ sym ((λ i. choose (odd-low i) ((quotient-in i + choose (tail .left i .m) 1 (2 ^ n - 1)) % 2 ^ n) (quotient-in i)) ∙ back W M Q odd (mod-lt (u .core .q) (pow-pos n)) (pow-pos n) (good .m) odd-lt);
       status =
           tail .left
-          ∙ ap (λ (s : Status). withC (carry n (flags n r u) (readAt (u .file) (r .D)) (readAt (u .file) (r .R))) (withN (told .n) (withZ (told .z) (withM M (withS (told .s) (withV (told .v) (withL (told .l) s))))))) (steps .stays)
-          ∙ (λ i. withC (c i) (withN (n-is i) (withZ (z-is i) (withM (m i) (withS (s i) (withV (v i) (withL (l i) (t .core .status))))))));
+          ∙ ap (λ (s : Status). withC (carry n (flags n r u) (readAt (u .file) (r .D)) (readAt (u .file) (r .R))) (withN (told .n) (withV (told .v) (withZ (told .z) (withL (told .l) (withM M (withS (told .s) s))))))) (steps .stays)
+          ∙ (λ i. withC (c i) (withN (n-is i) (withV (v i) (withZ (z-is i) (withL (l i) (withM (m i) (withS (s i) (t .core .status))))))));
     }
       where
-        c : carry n (flags n r u) (readAt (u .file) (r .D)) (readAt (u .file) (r .R)) ≡ choose (oddK n r z) (choose (negative X) 1 (zeroR n r z)) 0
+        -- M as it is told
+        m-told : ℕ
+        m-told = xor (signOf n (readAt (t .file) (r .D))) (choose (negative X) (readAt (z .file) (r .K) % 2) (1 - xor (readAt (z .file) (r .K) % 2) (zeroOf n (readAt (z .file) (r .R)))))
+
+        c : carry n (flags n r u) (readAt (u .file) (r .D)) (readAt (u .file) (r .R)) ≡ choose (readAt (z .file) (r .K) % 2) (choose (negative X) 1 (zeroOf n (readAt (z .file) (r .R)))) 0
         c = carry-left ∙ sym (λ i. choose (odd-is i) (choose (dividend-negative i) 1 (zero-is i)) 0)
 
-        n-is : flags n r u .n ≡ choose (negative X) (1 - oddK n r z) (max (oddK n r z) (zeroR n r z))
+        n-is : flags n r u .n ≡ choose (negative X) (1 - readAt (z .file) (r .K) % 2) (max (readAt (z .file) (r .K) % 2) (zeroOf n (readAt (z .file) (r .R))))
         n-is = sign-found ∙ sym (λ i. choose (dividend-negative i) (1 - odd-is i) (max (odd-is i) (zero-is i)))
 
-        z-is : flags n r u .z ≡ choose (negative X) 0 (choose (oddK n r z) (zeroR n r z) 0)
+        z-is : flags n r u .z ≡ choose (negative X) 0 (choose (readAt (z .file) (r .K) % 2) (zeroOf n (readAt (z .file) (r .R))) 0)
         z-is = zero-found ∙ sym (λ i. choose (dividend-negative i) 0 (choose (odd-is i) (zero-is i) 0))
 
-        m : M ≡ xor (signOf n (readAt (t .file) (r .D))) (choose (negative X) (oddK n r z) (1 - xor (oddK n r z) (zeroR n r z)))
+        m : M ≡ xor (signOf n (readAt (t .file) (r .D))) (choose (negative X) (readAt (z .file) (r .K) % 2) (1 - xor (readAt (z .file) (r .K) % 2) (zeroOf n (readAt (z .file) (r .R)))))
         m = ends .m ∙ sym (λ i. xor (sign-top n (readAt (t .file) (r .D)) hn i) (choose (dividend-negative i) (odd-is i) (1 - xor (odd-is i) (zero-is i))))
 
         s : u .core .status .s ≡ negative X
         s = steps .dividend-sign ∙ sym dividend-negative
 
-        v : counted n (flags n r u) (passed n r u) .v ≡ z .core .status .v
-        v = sym (ap (λ (s : Status). s .v) (tail .left))
+        half : 2 ^ (n - 1) ≡ 2 * 2 ^ (n - 2)
+        half = ap (λ (k : ℕ). 2 ^ k) (omega arith) ∙ pow-add 2 1 (n - 2)
 
-        l : counted n (flags n r u) (passed n r u) .l ≡ z .core .status .l
-        l = sym (ap (λ (s : Status). s .l) (tail .left))
+        odd-q : Q % 2 ≡ 1
+        odd-q = ap (λ (v : ℕ). v % 2) (steps .done .quotient) ∙ even-cut W H (2 * steps .done .c + 1) hW ∙ omega arith
+
+        low-passed : passed n r u % 2 ^ n ≡ Q
+        low-passed = merged-low n (u .core .q) (readAt (u .file) (r .K))
+
+        v : counted n (flags n r u) (passed n r u) .v ≡ choose m-told 0 (flag (eqb (register n (r .K) z) (2 ^ (n - 1))))
+        v =
+            ap (choose (tests (flags n r u)) 0) (overflow-low n (passed n r u) M two hn' (good .m) (ap (λ (v : ℕ). v % 2) low-passed ∙ odd-q))
+            ∙ ap₂ (λ (e q : ℕ). choose e 0 (choose M 0 (flag (eqb (byOne W M q) H)))) tested low-passed
+            ∙ overflow-told W H (2 ^ (n - 2)) M Q odd half odd-q (good .m) odd-lt
+            ∙ ap₂ (λ (m q : ℕ). choose m 0 (flag (eqb q H))) m (sym quotient-in)
+
+        l : readAt (u .file) (r .R) % 2 ≡ (readAt (z .file) (r .R) + choose (readAt (z .file) (r .K) % 2) (readAt (t .file) (r .D)) 0) % 2
+        l =
+            sym (even-cut W H (readAt (u .file) (r .R)) hW) ∙ link-told W H (register n (r .D) t) M B odd hW low-d (good .m) odd-lt
+            ∙ ap (λ (v : ℕ). (v + choose odd (register n (r .D) t) 0) % 2) (ends .remainder ∙ sym remainder-in)
+            ∙ parity W H (readAt (z .file) (r .R)) (readAt (t .file) (r .D)) odd hW odd-lt
+            ∙ ap (λ (e : ℕ). (readAt (z .file) (r .R) + choose e (readAt (t .file) (r .D)) 0) % 2) (sym odd-is)
 
   -- the division, from what the steps do for any divisor and any start within its range
   pub result :

@@ -27,7 +27,7 @@ use Rattle.run.specs.Run.{Sane}
 use Rattle.run.proofs.Laws.{step-sane}
 use Rattle.sequence.specs.Signed.{signed, Fits}
 use Rattle.sequence.specs.Sequences.{Idle, Registers, Different, Unread, bitsIn, codeOf, wordOf, looking, signedDivideWords, singleDivideWords}
-use Rattle.sequence.specs.Results.{register, lowQ, signedIn, longDividend, TooLarge, negative, oddK, zeroR, signedDividedStatus, SignedDivided}
+use Rattle.sequence.specs.Results.{register, lowQ, signedIn, longDividend, TooLarge, signedDividedStatus, SignedDivided}
 use Rattle.sequence.proofs.Integers.{sub-same, signed-long}
 use Rattle.sequence.proofs.Lists.{merged-low, merged-high, bits-of-bytes, sign-top, not-cut}
 use Rattle.sequence.proofs.TopBit.{top, top-low, top-high, Top, Top.clear, Top.full, top-is, top-lt}
@@ -175,7 +175,7 @@ module _ (n x : ℕ) (r : Registers) (t z : State) (hn : n ≤ 32) (different : 
       above-q = p .rest .above-q ∙ merged-high n _ (t .core .q);
     };
     q = p .q;
-    status = p .status ∙ ap (λ (d : ℕ). withM (xor (signOf n d) (choose (negative X) (oddK n r z) (1 - xor (oddK n r z) (zeroR n r z)))) (signedDividedStatus n X r t z)) (same (r .D) (different .divisor-remainder));
+    status = p .status ∙ ap (λ (d : ℕ). signedDividedStatus n X d (readAt (z .file) (r .K)) (readAt (z .file) (r .R)) (t .core .status)) (same (r .D) (different .divisor-remainder));
   }
 
 -- SIGNED DIVIDE, SINGLE LENGTH. With the dividend in register x instead, which may be any register, the same list after LOADQ-A and SIGN divides it by

@@ -2,6 +2,7 @@
 use mathlib.Core.Path.{_≡_}
 use mathlib.Core.Logic.{_≢_, _⊎_}
 use Prim.Native.Nat.{ℕ, _+_, _-_, _*_, _/_, _%_, _^_, _<_, max}
+use lib.Dec.{eqb}
 use lib.ListN.{length}
 use lib.IntN.{ℤ, pos, _+ℤ_, _*ℤ_, natAbs}
 use lib.Signed.{ltZ, nonNeg, quotZ, remZ}
@@ -99,32 +100,27 @@ pub record Apart (n : ℕ) (r : Registers) (t u : State) : Type 0 where
 abbrev pub negative : ℤ → ℕ
 negative z = flag (ltZ z (pos 0))
 
--- 1 where the quotient is odd, and where the remainder is zero
-abbrev pub oddK : ℕ → Registers → State → ℕ
-oddK n r u = register n (r .K) u % 2
-
-abbrev pub zeroR : ℕ → Registers → State → ℕ
-zeroR n r u = zeroOf n (readAt (u .file) (r .R))
-
 -- Both corrections are made where the quotient is even, and there alone. Q keeps the quotient k as it was before: one more where M is 0, one less
 -- where M is 1.
 abbrev pub uncorrected : ℕ → ℕ → ℕ → ℕ
 uncorrected n m k = choose (k % 2) ((k + choose m 1 (2 ^ n - 1)) % 2 ^ n) k
 
--- The status register afterwards, X being the dividend. S is 1 where the dividend is negative. C is 1 where the correction of the remainder carried;
--- N, Z and M are those by which the corrections were made. Of V, which QUOCORR leaves, and of L, which is the lowest bit of the remainder before its
--- correction, nothing is said: they are of no use afterwards. The nibble bits, position and width are as before.
-abbrev pub signedDividedStatus : ℕ → ℤ → Registers → State → State → Status
-signedDividedStatus n X r t u =
-    let odd : ℕ = oddK n r u in
-    let zero : ℕ = zeroR n r u in
+-- The status register afterwards, from s before it: X is the dividend, and d, k and y are the words in the registers of divisor, quotient and
+-- remainder. S is 1 where the dividend is negative. M, N and Z are those by which the corrections were made: M is 1 where the remainder before its
+-- correction had the divisor's sign. C is 1 where the correction of the remainder carried, V where QUOCORR overflowed, which is where it counted up to
+-- the most negative number, and L is the lowest bit of the remainder before its correction. The nibble bits, position and width are as before.
+abbrev pub signedDividedStatus : ℕ → ℤ → ℕ → ℕ → ℕ → Status → Status
+signedDividedStatus n X d k y s =
+    let odd : ℕ = k % 2 in
+    let zero : ℕ = zeroOf n y in
+    let m : ℕ = xor (signOf n d) (choose (negative X) odd (1 - xor odd zero)) in
     withC (choose odd (choose (negative X) 1 zero) 0)
     (withN (choose (negative X) (1 - odd) (max odd zero))
+    (withV (choose m 0 (flag (eqb (k % 2 ^ n) (2 ^ (n - 1)))))
     (withZ (choose (negative X) 0 (choose odd zero 0))
-    (withM (xor (signOf n (readAt (t .file) (r .D))) (choose (negative X) odd (1 - xor odd zero)))
-    (withS (negative X)
-    (withV (u .core .status .v)
-    (withL (u .core .status .l) (t .core .status)))))))
+    (withL ((y + choose odd d 0) % 2)
+    (withM m
+    (withS (negative X) s))))))
 
 -- Register K holds the quotient of X by register D, cut towards zero, and register R the remainder, all in two's complement: quotient times divisor
 -- plus remainder is the dividend, and the remainder is smaller in size than the divisor, and zero or of the dividend's sign.
@@ -136,4 +132,4 @@ pub record SignedDivided (n : ℕ) (X : ℤ) (r : Registers) (t u : State) : Typ
   pub sign : (signedIn n (r .R) u ≡ pos 0) ⊎ (nonNeg (signedIn n (r .R) u) ≡ nonNeg X)
   pub rest : Apart n r t u
   pub q : lowQ n u ≡ uncorrected n (u .core .status .m) (register n (r .K) u)
-  pub status : u .core .status ≡ signedDividedStatus n X r t u
+  pub status : u .core .status ≡ signedDividedStatus n X (readAt (t .file) (r .D)) (readAt (u .file) (r .K)) (readAt (u .file) (r .R)) (t .core .status)

@@ -61,7 +61,7 @@ abbrev pub divideWords : ℕ → ℕ → ℕ → (ℕ → Idle) → List Word
 divideWords w a b idle = wordsOf (codeOf w) a b (divideOpcodes w) idle
 
 -- ---- signed
--- one SMULFIRST, n / 2 - 1 SMULSTEP; there is no last word
+-- one SMULFIRST, n / 2 - 1 SMULSTEP; there is no last word (M48)
 abbrev pub signedMultiplyOpcodes : ℕ → List ℕ
 signedMultiplyOpcodes w = 0x5f ∷ times (bitsIn w / 2 - 1) 0x5e []
 
@@ -82,7 +82,7 @@ pub record Different (r : Registers) : Type 0 where
   pub remainder-quotient : r .R ≢ r .K
   pub zero-remainder : r .O ≢ r .R
 
--- a word that writes nothing, and two of the status register alone, at a place in it
+-- a word that writes nothing, and one that looks at a place of the status register alone
 abbrev pub looking : ℕ → ℕ → ℕ → ℕ → Idle → Word
 looking code a b opcode i =
     record {
@@ -113,7 +113,7 @@ pub record Unread : Type 0 where
 abbrev pub signedDivideOpcodes : ℕ → List ℕ
 signedDivideOpcodes w = 0x4e ∷ times (bitsIn w - 1) 0x50 (0x51 ∷ [])
 
--- Both corrections, where table 11-2 jumps past them. They are made where Z EXOR N EXOR S is 1, which misses a zero remainder of a negative
+-- Both corrections, where table 11-2 jumps past them (M48). They are made where Z EXOR N EXOR S is 1, which misses a zero remainder of a negative
 -- dividend: so N is set there first. Then the quotient, from Q, is corrected in a register of its own, and the remainder.
 abbrev pub correctionWords : ℕ → Registers → (ℕ → Unread) → List Word
 correctionWords w r free =
