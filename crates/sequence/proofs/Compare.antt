@@ -2,19 +2,17 @@
 -- rest is a table of two sign bits and that.
 use mathlib.Core.Path.{_≡_, refl, sym, ap, ap₂, _∙_}
 use mathlib.Core.Bool.{Bool, true, false}
-use Prim.Native.Nat.{ℕ, suc, _+_, _-_, _*_, _/_, _%_, _^_, _≤_, _<_, max}
+use Prim.Native.Nat.{ℕ, suc, _+_, _-_, _*_, _/_, _%_, _^_, _≤_, _<_}
 use native.Mathlib.Nat.{mod-lt}
 use native.Mathlib.Omega.{arith}
-use lib.Dec.{ltb, leb, lit<}
+use lib.Dec.{ltb, leb}
 use lib.Arith.{digits-div}
-use lib.Pow.{pow-pos, pow-add, mod-pow-add, high, low}
+use lib.Pow.{pow-pos, pow-add, mod-pow-add, low}
 use borrow.Author.Tests.{leb-true, leb-false, lt-ltb, le-ltb}
 use Rattle.bits.specs.Bits.{flag, xor, bitOf, signOf, notOf, carryOf, overflowOf}
 use Rattle.bits.proofs.BitByBit.{bit-lt, by-flag, bit-not}
 use Rattle.bits.proofs.Adder.{full-sum, full-carry}
-use Rattle.machine.specs.declared.Status.{Status}
 use Rattle.machine.specs.declared.Inputs.{Inputs}
-use Rattle.machine.specs.Status.{gathered, asRead, Good}
 use Rattle.machine.specs.Inputs.{bitsOf, Sound}
 use Rattle.bits.proofs.Bounds.{selected-bounds}
 use Rattle.machine.proofs.Kept.{bits-le}
@@ -23,6 +21,7 @@ use Rattle.arithmetic.proofs.Kept.{difference-kept}
 use Rattle.sequence.specs.Compare.{signedLess, lessBit}
 use Rattle.sequence.proofs.Integers.{sub-less}
 use Rattle.sequence.proofs.Lists.{not-cut}
+use Rattle.sequence.proofs.Relational.{relational}
 
 -- ---- on numbers
 -- two numbers by sign bit and low bits, where k says that nothing is borrowed from the sign bits
@@ -95,38 +94,9 @@ less-bits n a b h l hb =
         ∙ ap₂ (λ (v w : ℕ). v + signOf n y * w) (mod-pow-add x 1 (n - 1)) (pow-add 2 1 (n - 1))
 
 -- ---- on the chip
--- a bit above the low 14
-bit-at : (hi f lo x : ℕ) → x ≡ (hi * 2 ^ 1 + f) * 2 ^ 14 + lo → lo < 2 ^ 14 → f < 2 ^ 1 → bitOf 14 x ≡ f
-bit-at hi f lo x e l h = ap (bitOf 14) e ∙ ap (λ (y : ℕ). y % 2 ^ 1) (high (hi * 2 ^ 1 + f) 14 l) ∙ low hi 1 h
-
--- bit 14 of the register as it is read
-read-less : (s : Status) → Good s → bitOf 14 (asRead s) ≡ xor (s .n) (s .v)
-unfolding asRead
-read-less s g =
-    let x : xor (s .n) (s .v) < 2 = mod-lt (s .n + s .v) (lit< tt) in
-    bit-at
-    (max (xor (s .n) (s .v)) (s .z) + s .c * 2 + s .n * 2 ^ 2 + s .v * 2 ^ 3 + s .z * 2 ^ 4 + s .l * 2 ^ 5 + s .m * 2 ^ 6 + s .s * 2 ^ 7 + gathered 8 (s .nibbles) * 2 ^ 9)
-    (xor (s .n) (s .v))
-    (s .position + s .width * 2 ^ 8 + max (s .c) (s .z) * 2 ^ 13)
-    (asRead s)
-    (parts (s .position) (s .width) (max (s .c) (s .z)) (xor (s .n) (s .v)) (max (xor (s .n) (s .v)) (s .z)) (s .c) (s .n) (s .v) (s .z) (s .l) (s .m) (s .s) (gathered 8 (s .nibbles)))
-    (small (s .position) (s .width) (max (s .c) (s .z)) (g .position) (g .width) (flags (s .c) (s .z) (g .c) (g .z)))
-    x
-  where
-    parts : (p w e x f c n v z l m s b : ℕ)
-        → p + w * 2 ^ 8 + (e + x * 2 + f * 4) * 2 ^ 13 + c * 2 ^ 16 + n * 2 ^ 17 + v * 2 ^ 18 + z * 2 ^ 19 + l * 2 ^ 20 + m * 2 ^ 21 + s * 2 ^ 22 + b * 2 ^ 24
-        ≡ ((f + c * 2 + n * 2 ^ 2 + v * 2 ^ 3 + z * 2 ^ 4 + l * 2 ^ 5 + m * 2 ^ 6 + s * 2 ^ 7 + b * 2 ^ 9) * 2 ^ 1 + x) * 2 ^ 14 + (p + w * 2 ^ 8 + e * 2 ^ 13)
-    parts p w e x f c n v z l m s b = omega arith
-
-    small : (p w e : ℕ) → p < 256 → w < 32 → e < 2 → p + w * 2 ^ 8 + e * 2 ^ 13 < 2 ^ 14
-    small p w e hp hw he = omega arith
-
-    flags : (c z : ℕ) → c < 2 → z < 2 → max c z < 2
-    flags c z hc hz = omega arith
-
 pub compare-exact : (x : Inputs) → Sound x → x .b < 2 ^ 32 → x .q < 2 ^ 32 → lessBit (SUB x) ≡ signedLess (bitsOf x) (x .a) (x .b)
 unfolding difference
 compare-exact x h hb hq =
     let w : 8 ≤ bitsOf x = selected-bounds (x .code) (h .code) .0 in
-    read-less (SUB x .status) (difference-kept x h hq (x .a) (x .b) 1 (x .b) hb .status)
+    relational (SUB x .status) (difference-kept x h hq (x .a) (x .b) 1 (x .b) hb .status) .1
     ∙ less-bits (bitsOf x) (x .a) (x .b) (omega arith) (bits-le x h) hb

@@ -21,7 +21,7 @@ use Rattle.chip.specs.Glossary.{performOf}
 use Rattle.chip.specs.Lists.{State, readAt, inputsOf, stepOf, execs}
 use Rattle.sequence.specs.Sequences.{Idle, bitsIn, codeOf, wordOf, wordsOf, divideWords}
 use Rattle.sequence.specs.Results.{register, lowQ, oddQ, Divided}
-use Rattle.sequence.proofs.Lists.{Work, view, before, after, Acts, acts-from, carried, carried-back, Reached, start, next, repeated, in-file, untouched-then, word-rest, word-status, word-y, merged-low, merged-high, bits-of-bytes, sign-top, not-cut, cut-sum}
+use Rattle.sequence.proofs.Lists.{Work, view, before, after, Acts, acts-from, carried, carried-back, Reached, start, next, repeated, in-file, untouched-then, word-rest, word-status, word-y, merged-low, merged-high, bits-of-bytes, sign-top, not-cut, cut-sum, halved}
 use Rattle.sequence.proofs.TopBit.{top}
 use Rattle.sequence.proofs.DivideNumbers.{divSum, divF, operandOf, divC, newBit, divFirst, divStep, divLast, Left, first-left, step-left, flag-m, Whole, Less, Done, last-done, sign-is}
 
@@ -377,4 +377,4 @@ divide-exact w a b idle t h1 h4 ab hb ha hd h0 =
     pos = pos-of-ne-zero hd
 
     pow : W ≡ 2 * 2 ^ (n - 1)
-    pow = ap (λ (x : ℕ). 2 ^ x) (omega arith) ∙ pow-add 2 1 (n - 1)
+    pow = halved n (omega arith)

@@ -2,6 +2,7 @@
 pub mod Counterexamples
 pub mod Integers
 pub mod TopBit
+pub mod Relational
 pub mod Lists
 pub mod MultiplyNumbers
 pub mod Multiply

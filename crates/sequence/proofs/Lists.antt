@@ -38,10 +38,13 @@ low-digit n q h = subst (λ (k : ℕ). q % 2 ^ k % 4 ≡ q % 4) (omega arith) (m
 pub second-bit : (n q : ℕ) → 2 ≤ n → bitOf 1 q ≡ q % 2 ^ n / 2 % 2
 second-bit n q h = sym (field q 1 1) ∙ ap (λ (d : ℕ). d / 2) (sym (low-digit n q h)) ∙ field (q % 2 ^ n) 1 1
 
+pub halved : (n : ℕ) → 1 ≤ n → 2 ^ n ≡ 2 * 2 ^ (n - 1)
+halved n h = ap (λ (k : ℕ). 2 ^ k) (omega arith) ∙ pow-add 2 1 (n - 1)
+
 pub sign-top : (n b : ℕ) → 1 ≤ n → signOf n b ≡ 2 * (b % 2 ^ n) / 2 ^ n
 sign-top n b h =
     let e : 1 + (n - 1) ≡ n = omega arith in
-    let p : 2 ^ n ≡ 2 * 2 ^ (n - 1) = ap (λ (k : ℕ). 2 ^ k) (sym e) ∙ pow-add 2 1 (n - 1) in
+    let p : 2 ^ n ≡ 2 * 2 ^ (n - 1) = halved n h in
     sym (field b 1 (n - 1)) ∙ ap (λ (k : ℕ). b % 2 ^ k / 2 ^ (n - 1)) e
     ∙ sym (ap (λ (w : ℕ). 2 * (b % 2 ^ n) / w) p ∙ mul-div-mul-left (b % 2 ^ n) (2 ^ (n - 1)) (omega arith))
 

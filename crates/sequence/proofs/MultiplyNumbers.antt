@@ -6,7 +6,7 @@ use mathlib.Core.Logic.{_⊎_, inl, inr}
 use mathlib.Core.Bool.{Bool, true, false}
 use Prim.Native.Nat.{ℕ, zero, suc, _+_, _-_, _*_, _/_, _%_, _^_, _<_, _≤_}
 use native.Mathlib.Omega.{arith}
-use native.Mathlib.Nat.{le-of-lt, div-eq-of-lt, mod-eq-of-lt, mod-lt, mul-le-mul, mul-le-mul-right, lt-of-mul-lt-mul-left, div-add-mod', div-lt-iff-lt-mul}
+use native.Mathlib.Nat.{le-of-lt, mod-eq-of-lt, mod-lt, mul-le-mul, mul-le-mul-right, lt-of-mul-lt-mul-left, div-add-mod', div-lt-iff-lt-mul}
 use lib.Dec.{ltb}
 use lib.IntN.{subℕ, _*ℤ_}
 use lib.Arith.{digits-div, digits-mod}

@@ -1,20 +1,20 @@
 -- Integers by sign and size: what the bits of a register are, and what quotient and remainder, cut towards zero, are.
-use mathlib.Core.Path.{_≡_, refl, sym, ap, ap₂, _∙_, subst}
-use mathlib.Core.Logic.{_≢_, _⊎_, inl, inr}
+use mathlib.Core.Path.{_≡_, refl, sym, ap, ap₂, _∙_}
+use mathlib.Core.Logic.{_⊎_, inl, inr}
 use Prim.Native.Nat.{ℕ, zero, suc, _+_, _-_, _*_, _/_, _%_, _^_, _<_, _≤_}
 use native.Mathlib.Nat.{mod-lt, mod-le, mod-eq-of-lt, div-le-self}
 use native.Mathlib.Omega.{arith}
 use lib.Arith.{digits-mod, digits-lt}
 use borrow.Author.Tests.{le-ltb}
-use lib.Pow.{pow-pos, pow-add}
-use lib.IntN.{ℤ, pos, negsuc, negℤ, subℕ, _+ℤ_, _*ℤ_, natAbs}
-use lib.Signed.{ltZ, mag, nonNeg, quotZ, remZ}
-use Rattle.bits.specs.Bits.{choose, flag, xor, signOf}
+use lib.Pow.{pow-pos}
+use lib.IntN.{ℤ, pos, negℤ, subℕ, _+ℤ_, _*ℤ_, natAbs}
+use lib.Signed.{mag, nonNeg, quotZ, remZ}
+use Rattle.bits.specs.Bits.{choose, flag, xor}
 use Rattle.bits.proofs.BitByBit.{by-flag}
 use Rattle.sequence.specs.Signed.{signed}
 use Rattle.sequence.specs.Results.{negative}
 use Rattle.sequence.proofs.Integers.{pos-sub, neg-sub, sub-same, sub-sum, sub-product}
-use Rattle.sequence.proofs.Lists.{sign-top}
+use Rattle.sequence.proofs.Lists.{sign-top, halved}
 use Rattle.sequence.proofs.TopBit.{top, top-low, top-high, Top, Top.clear, Top.full, top-is}
 use Rattle.sequence.proofs.SignedDivideNumbers.{Divisor}
 use Rattle.sequence.proofs.SignedCorrections.{residue, Size, Size.as-it-is, Size.complemented}
@@ -51,7 +51,7 @@ residue-signed n x f v hn hf hv e =
         ∙ ap (λ (s : ℕ). subℕ (W - suc v) (s * W)) (top-high W (W - suc v) (omega (arith, even)) (omega (arith, pow-pos n))) ∙ sub-same (W - suc v) (1 * W) 0 (suc v) (omega (arith, even)) ∙ sym (neg-sub (suc v))
       where
         even : 2 ^ n ≡ 2 * 2 ^ (n - 1)
-        even = ap (λ (x : ℕ). 2 ^ x) (omega arith) ∙ pow-add 2 1 (n - 1)
+        even = halved n (omega arith)
 
 -- ---- quotient and remainder
 pub size-of : (f v : ℕ) → f < 2 → natAbs (sized f v) ≡ v

@@ -1,17 +1,16 @@
 -- The signed division comes out exact: its words, of a double-length dividend and of a single-length one.
-use mathlib.Core.Path.{_≡_, refl, sym, ap, ap₂, _∙_, subst}
+use mathlib.Core.Path.{_≡_, sym, ap, _∙_, subst}
 use mathlib.Core.Logic.{_≢_}
 use mathlib.Core.List.{List, [], _∷_, _++_}
-use Prim.Native.Nat.{ℕ, zero, suc, _+_, _-_, _*_, _/_, _%_, _^_, _≤_, _<_}
-use native.Mathlib.Nat.{mod-lt, pos-of-ne-zero}
+use Prim.Native.Nat.{ℕ, zero, _+_, _-_, _≤_, _<_}
+use native.Mathlib.Nat.{pos-of-ne-zero}
 use native.Mathlib.Omega.{arith}
 use lib.ListN.{length}
-use lib.IntN.{ℤ}
 use lib.Signed.{quotZ}
-use Rattle.bits.specs.Bits.{selected, signOf, merged}
+use Rattle.bits.specs.Bits.{selected}
 use Rattle.machine.specs.Status.{Good}
 use Rattle.chip.specs.declared.Word.{Word}
-use Rattle.chip.specs.Lists.{State, readAt, execs}
+use Rattle.chip.specs.Lists.{State, execs}
 use Rattle.chip.proofs.Words.{execs-append, execs-size}
 use Rattle.sheet.specs.Sheet.{WordReady}
 use Rattle.sheet.proofs.Positions.{All}
@@ -20,7 +19,7 @@ use Rattle.run.specs.Run.{Sane}
 use Rattle.run.proofs.Laws.{execs-sane}
 use Rattle.sequence.specs.Signed.{Fits}
 use Rattle.sequence.specs.Sequences.{Idle, Registers, Different, Unread, bitsIn, codeOf, wordsOf, times, correctionWords, signedDivideOpcodes, signedDivideWords}
-use Rattle.sequence.specs.Results.{register, lowQ, signedIn, longDividend, SignedDivided}
+use Rattle.sequence.specs.Results.{register, signedIn, longDividend, SignedDivided}
 use Rattle.sequence.proofs.Lists.{bits-of-bytes}
 use Rattle.sequence.proofs.SignedSteps.{signed-steps}
 use Rattle.sequence.proofs.SignedResult.{Tailed, tail, tail-is, tailed, result}

@@ -6,10 +6,10 @@ use mathlib.Core.Path.{_≡_, refl, sym, ap, ap₂, _∙_, subst}
 use mathlib.Core.Logic.{_⊎_, inl, inr}
 use Prim.Native.Nat.{ℕ, zero, suc, _+_, _-_, _*_, _/_, _%_, _^_, _<_, _≤_}
 use native.Mathlib.Omega.{arith}
-use native.Mathlib.Nat.{div-eq-of-lt, mod-eq-of-lt, mod-lt, div-add-mod', div-lt-iff-lt-mul, mul-pos}
+use native.Mathlib.Nat.{mod-eq-of-lt, mod-lt, div-add-mod', div-lt-iff-lt-mul}
 use native.Mathlib.Decide.{decLe}
 use lib.Pow.{pow-pos}
-use lib.Arith.{digits-div, digits-mod}
+use lib.Arith.{digits-mod}
 use Rattle.bits.specs.Bits.{xor}
 use Rattle.sequence.proofs.Lists.{Work}
 use Rattle.sequence.proofs.TopBit.{top, top-low, top-high}

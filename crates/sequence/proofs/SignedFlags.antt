@@ -1,33 +1,31 @@
 -- The five words after SDIVLAST1 that write nothing: they set N and Z for the corrections.
-use mathlib.Core.Path.{_≡_, refl, sym, ap, ap₂, _∙_, subst}
-use mathlib.Core.Logic.{_≢_}
-use mathlib.Core.List.{List, [], _∷_}
-use Prim.Native.Nat.{ℕ, zero, suc, _+_, _-_, _*_, _/_, _%_, _^_, _≤_, _<_, max}
+use mathlib.Core.Path.{_≡_, sym, ap, ap₂, _∙_, subst}
+use mathlib.Core.List.{[], _∷_}
+use Prim.Native.Nat.{ℕ, zero, _+_, _-_, _*_, _/_, _%_, _^_, _≤_, _<_, max}
 use native.Mathlib.Nat.{mod-lt, mod-eq-of-lt, mod-mod}
 use native.Mathlib.Omega.{arith}
 use lib.Dec.{eqb}
 use lib.Arith.{digits-div, digits-mod}
-use lib.Pow.{pow-pos, pow-add}
-use lib.ListN.{length}
-use Rattle.bits.specs.Bits.{selected, choose, flag, xor, bitOf, signOf, zeroOf, merged, notOf, carryOf, overflowOf, putBit}
-use Rattle.bits.proofs.BitByBit.{by-flag, bit-lt}
+use lib.Pow.{pow-pos}
+use Rattle.bits.specs.Bits.{selected, choose, flag, xor, bitOf, signOf, zeroOf, notOf, putBit}
+use Rattle.bits.proofs.BitByBit.{by-flag}
 use Rattle.bits.proofs.Bounds.{flag-lt, xor-lt, zero-flag}
 use Rattle.machine.specs.declared.Status.{Status}
-use Rattle.machine.specs.declared.Inputs.{Inputs}
-use Rattle.machine.specs.Status.{UNSIGNED-LE, SIGNED-LT, SIGNED-LE, workedOut, gathered, asRead, loaded, Good, withC, withN, withV, withZ, withL}
+use Rattle.machine.specs.Status.{SIGNED-LE, workedOut, gathered, asRead, loaded, Good, withN, withV, withZ, withL}
 use Rattle.machine.proofs.Kept.{good-v, good-z}
-use Rattle.machine.proofs.Round.{worked-out-lt, field-at, fields-of}
+use Rattle.machine.proofs.Round.{worked-out-lt, fields-of}
 use Rattle.shifts.specs.SingleBit.{downshifted, down}
 use Rattle.divide.specs.Divide.{SDIVLAST2}
 use Rattle.fields.specs.BitManipulation.{putStatus, EXTBIT-STAT}
 use Rattle.chip.specs.Glossary.{performOf}
-use Rattle.chip.specs.Lists.{State, state, readAt, storeAt, inputsOf, stepOf, execs}
-use Rattle.sequence.specs.Sequences.{Idle, Registers, Unread, wordOf, looking, onStatus}
-use Rattle.sequence.proofs.Lists.{merged-low, merged-high, sign-top}
+use Rattle.chip.specs.Lists.{State, state, readAt, stepOf, execs}
+use Rattle.sequence.specs.Sequences.{Registers, Unread, looking, onStatus}
+use Rattle.sequence.proofs.Lists.{sign-top, halved}
+use Rattle.sequence.proofs.Relational.{relational}
 use Rattle.sequence.proofs.TopBit.{top}
 use Rattle.sequence.proofs.DivideNumbers.{operandOf}
 use Rattle.sequence.proofs.SignedSteps.{low-sum}
-use Rattle.sequence.proofs.SignedCorrections.{signFor, specialZ, byOne}
+use Rattle.sequence.proofs.SignedCorrections.{signFor, specialZ}
 
 -- ---- the status register
 -- RSTBIT-STAT of bit 18 sets V to 0
@@ -48,27 +46,6 @@ flags f g hf hg = omega arith
 
 xor-none : (f : ℕ) → f < 2 → xor f 0 ≡ f
 xor-none f h = omega arith
-
--- bit 15 of the register as it is read
-le-read : (s : Status) → Good s → bitOf 15 (asRead s) ≡ SIGNED-LE s
-unfolding asRead
-le-read s g =
-    field-at 15 1 (s .c + s .n * 2 + s .v * 2 ^ 2 + s .z * 2 ^ 3 + s .l * 2 ^ 4 + s .m * 2 ^ 5 + s .s * 2 ^ 6 + gathered 8 (s .nibbles) * 2 ^ 8)
-    (SIGNED-LE s) (s .position + s .width * 2 ^ 8 + (UNSIGNED-LE s + SIGNED-LT s * 2) * 2 ^ 13) (asRead s)
-    (parts (s .position) (s .width) (UNSIGNED-LE s) (SIGNED-LT s) (SIGNED-LE s) (s .c) (s .n) (s .v) (s .z) (s .l) (s .m) (s .s) (gathered 8 (s .nibbles)))
-    (small (s .position) (s .width) (s .c) (s .z) (SIGNED-LT s) (g .position) (g .width) (g .c) (g .z) lt)
-    (flags (SIGNED-LT s) (s .z) lt (g .z))
-  where
-    lt : SIGNED-LT s < 2
-    lt = mod-lt (s .n + s .v) (omega arith)
-
-    parts : (p w e x f c n v z l m s b : ℕ)
-        → p + w * 2 ^ 8 + (e + x * 2 + f * 4) * 2 ^ 13 + c * 2 ^ 16 + n * 2 ^ 17 + v * 2 ^ 18 + z * 2 ^ 19 + l * 2 ^ 20 + m * 2 ^ 21 + s * 2 ^ 22 + b * 2 ^ 24
-        ≡ ((c + n * 2 + v * 2 ^ 2 + z * 2 ^ 3 + l * 2 ^ 4 + m * 2 ^ 5 + s * 2 ^ 6 + b * 2 ^ 8) * 2 ^ 1 + f) * 2 ^ 15 + (p + w * 2 ^ 8 + (e + x * 2) * 2 ^ 13)
-    parts p w e x f c n v z l m s b = omega arith
-
-    small : (p w c z x : ℕ) → p < 256 → w < 32 → c < 2 → z < 2 → x < 2 → p + w * 2 ^ 8 + (max c z + x * 2) * 2 ^ 13 < 2 ^ 15
-    small p w c z x hp hw hc hz hx = omega arith
 
 -- ---- the five words that write nothing, n bits being selected; b, a and o are the words in the registers of remainder, divisor and zero
 -- what SDIVLAST2 adds to b, and the Z that it leaves
@@ -111,7 +88,7 @@ module _ (code : ℕ) (r : Registers) (free : ℕ → Unread) (u : State) (good 
   good₁ = good-z _ s₀ (zero-lt n _ (s₀ .s) (good .s)) good
 
   link-is : xor (bitOf 15 (asRead (withV 0 s₁))) 0 ≡ linked n (at (r .O)) (at (r .R)) q s₀
-  link-is = ap (λ (v : ℕ). xor v 0) (le-read (withV 0 s₁) (good-v 0 s₁ (omega arith) good₁)) ∙ xor-none _ (flags _ _ (xor-lt (s₀ .n) 0) (zero-lt n _ (s₀ .s) (good .s)))
+  link-is = ap (λ (v : ℕ). xor v 0) (relational (withV 0 s₁) (good-v 0 s₁ (omega arith) good₁) .2) ∙ xor-none _ (flags _ _ (xor-lt (s₀ .n) 0) (zero-lt n _ (s₀ .s) (good .s)))
 
   abbrev last₂ : State → State
   last₂ t = stepOf (looking code (r .D) (r .R) 0x5a (free 4 .idle)) (stepOf (looking code (free 3 .a) (r .R) 0x29 (free 3 .idle)) t)
@@ -149,7 +126,7 @@ zero-is n o b q s h l ho e =
 sign-down : (n b f : ℕ) → 1 ≤ n → f < 2 → signOf n (downshifted n b f) ≡ f
 unfolding downshifted
 sign-down n b f h hf =
-    let p : 2 ^ n ≡ 2 * 2 ^ (n - 1) = ap (λ (k : ℕ). 2 ^ k) (omega arith) ∙ pow-add 2 1 (n - 1) in
+    let p : 2 ^ n ≡ 2 * 2 ^ (n - 1) = halved n (omega arith) in
     let l : b % 2 ^ n < 2 ^ n = mod-lt b (pow-pos n) in
     ap (λ (v : ℕ). v % 2) (ap (λ (v : ℕ). v / 2 ^ (n - 1)) (omega arith) ∙ digits-div f {m = 2 ^ (n - 1)} {r = b % 2 ^ n / 2} (omega arith)) ∙ mod-eq-of-lt hf
 

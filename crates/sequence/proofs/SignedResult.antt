@@ -1,37 +1,35 @@
 -- What the steps and the corrections of a signed division come to, as integers, and what Q and the status register hold afterwards.
 use mathlib.Core.Path.{_≡_, refl, sym, ap, ap₂, _∙_, subst}
-use mathlib.Core.Logic.{_≢_, _⊎_, inl, inr}
-use mathlib.Core.List.{List, [], _∷_, _++_}
+use mathlib.Core.Logic.{_≢_, _⊎_}
+use mathlib.Core.List.{List, [], _∷_}
 use Prim.Native.Nat.{ℕ, zero, suc, _+_, _-_, _*_, _/_, _%_, _^_, _≤_, _<_, max}
-use native.Mathlib.Nat.{mod-lt, mod-eq-of-lt, mod-add-mod, mul-le-mul-right, pos-of-ne-zero, div-add-mod', mod-le}
-use native.Mathlib.Decide.{decLe}
+use native.Mathlib.Nat.{mod-lt, mod-eq-of-lt, mod-add-mod, mul-le-mul-right, div-add-mod', mod-le}
 use native.Mathlib.Omega.{arith}
 use lib.Dec.{eqb}
 use lib.Arith.{digits-mod}
 use borrow.Author.Tests.{ne-eqb}
-use lib.Pow.{pow-pos, pow-add}
+use lib.Pow.{pow-pos}
 use lib.ListN.{length}
-use lib.IntN.{ℤ, pos, negsuc, negℤ, subℕ, _+ℤ_, _*ℤ_, natAbs}
+use lib.IntN.{ℤ, pos, subℕ, _+ℤ_, _*ℤ_, natAbs}
 use lib.Signed.{nonNeg, quotZ, remZ}
 use Rattle.bits.specs.Bits.{selected, choose, flag, xor, signOf, zeroOf, merged}
 use Rattle.bits.proofs.BitByBit.{by-flag}
 use Rattle.bits.proofs.Bounds.{flag-lt}
 use Rattle.machine.specs.declared.Status.{Status}
 use Rattle.machine.specs.Status.{Good, withC, withN, withV, withZ, withL, withM, withS}
-use Rattle.chip.specs.Lists.{State, state, readAt, storeAt, stepOf, execs}
+use Rattle.chip.specs.Lists.{State, state, readAt, storeAt, execs}
 use Rattle.chip.proofs.Files.{store-length, read-same, read-other}
 use Rattle.sequence.specs.Signed.{Fits}
 use Rattle.sequence.specs.Sequences.{Registers, Different, Unread, codeOf, wordOf, correctionWords}
-use Rattle.sequence.specs.Results.{register, lowQ, signedIn, longDividend, negative, uncorrected, SignedDivided}
+use Rattle.sequence.specs.Results.{register, lowQ, signedIn, longDividend, negative, SignedDivided}
 use Rattle.sequence.proofs.Integers.{signed-long}
-use Rattle.sequence.proofs.Lists.{view, merged-low, merged-high, bits-of-bytes, sign-top}
+use Rattle.sequence.proofs.Lists.{view, merged-low, merged-high, sign-top, halved}
 use Rattle.sequence.proofs.TopBit.{top, top-lt}
 use Rattle.sequence.proofs.DivideNumbers.{operandOf}
-use Rattle.sequence.proofs.Divide.{steady}
 use Rattle.sequence.proofs.SignedDivideNumbers.{Divisor, Out}
 use Rattle.sequence.proofs.SignedCorrections.{residue, byOne, is-zero, not-zero, signFor, specialZ, Corrected, Size, Size.as-it-is, Size.complemented, Begun, begun, end-corrected}
-use Rattle.sequence.proofs.SignedSteps.{Stepped, signed-steps}
-use Rattle.sequence.proofs.SignedFlags.{zeroLeft, flagged, five, special-is, sign-for}
+use Rattle.sequence.proofs.SignedSteps.{Stepped}
+use Rattle.sequence.proofs.SignedFlags.{flagged, five, special-is, sign-for}
 use Rattle.sequence.proofs.SignedTail.{tests, remainderTests, quotient, remainder, carry, counted, three, quotient-low, remainder-low, carry-low, overflow-low}
 use Rattle.sequence.proofs.SignAndSize.{sized, sizeOf, divisor-of, longSize, long-size, long-sized, signed-sized, residue-signed, quotient-sized, remainder-sized, whole-sized, size-of, like-sign, negative-sized, fits-sized}
 
@@ -82,24 +80,21 @@ tailed n r u hk hr rk = record {
     size = store-length (storeAt (u .file) (r .K) (passed n r u)) (r .K) _ ∙ store-length (u .file) (r .K) _
 
 -- ---- what the flags say
+-- a claim for each of the eight values of three flags
+by-flags :
+    (P : ℕ → ℕ → ℕ → Type 0) → P 0 0 0 → P 0 0 1 → P 0 1 0 → P 0 1 1 → P 1 0 0 → P 1 0 1 → P 1 1 0 → P 1 1 1 →
+    (x y z : ℕ) → x < 2 → y < 2 → z < 2 → P x y z
+by-flags P p₀ p₁ p₂ p₃ p₄ p₅ p₆ p₇ x y z hx hy hz = by-flag (λ (x : ℕ). P x y z) (row 0 p₀ p₁ p₂ p₃) (row 1 p₄ p₅ p₆ p₇) x hx
+  where
+    row : (x : ℕ) → P x 0 0 → P x 0 1 → P x 1 0 → P x 1 1 → P x y z
+    row x q₀ q₁ q₂ q₃ = by-flag (λ (y : ℕ). P x y z) (by-flag (P x 0) q₀ q₁ z hz) (by-flag (P x 1) q₂ q₃ z hz) y hy
+
 -- both corrections are made where the quotient is even
 verdict : (ρ e f : ℕ) → ρ < 2 → e < 2 → f < 2 → (choose ρ 0 (choose e f 0) + choose ρ (1 - e) (max e f) + ρ) % 2 ≡ 1 - e
-verdict ρ e f hρ he hf = by-flag (λ (ρ : ℕ). Row ρ e f) (row 0 refl refl refl refl) (row 1 refl refl refl refl) ρ hρ
-  where
-    Row : ℕ → ℕ → ℕ → Type 0
-    Row ρ e f = (choose ρ 0 (choose e f 0) + choose ρ (1 - e) (max e f) + ρ) % 2 ≡ 1 - e
-
-    row : (ρ : ℕ) → Row ρ 0 0 → Row ρ 0 1 → Row ρ 1 0 → Row ρ 1 1 → Row ρ e f
-    row ρ r₀ r₁ r₂ r₃ = by-flag (λ (e : ℕ). Row ρ e f) (by-flag (Row ρ 0) r₀ r₁ f hf) (by-flag (Row ρ 1) r₂ r₃ f hf) e he
+verdict = by-flags (λ (ρ e f : ℕ). (choose ρ 0 (choose e f 0) + choose ρ (1 - e) (max e f) + ρ) % 2 ≡ 1 - e) refl refl refl refl refl refl refl refl
 
 same-verdict : (ρ e f : ℕ) → ρ < 2 → e < 2 → f < 2 → choose (max (choose ρ (1 - e) (max e f)) ρ) 0 (1 - e) ≡ 1 - e
-same-verdict ρ e f hρ he hf = by-flag (λ (ρ : ℕ). Row ρ e f) (row 0 refl refl refl refl) (row 1 refl refl refl refl) ρ hρ
-  where
-    Row : ℕ → ℕ → ℕ → Type 0
-    Row ρ e f = choose (max (choose ρ (1 - e) (max e f)) ρ) 0 (1 - e) ≡ 1 - e
-
-    row : (ρ : ℕ) → Row ρ 0 0 → Row ρ 0 1 → Row ρ 1 0 → Row ρ 1 1 → Row ρ e f
-    row ρ r₀ r₁ r₂ r₃ = by-flag (λ (e : ℕ). Row ρ e f) (by-flag (Row ρ 0) r₀ r₁ f hf) (by-flag (Row ρ 1) r₂ r₃ f hf) e he
+same-verdict = by-flags (λ (ρ e f : ℕ). choose (max (choose ρ (1 - e) (max e f)) ρ) 0 (1 - e) ≡ 1 - e) refl refl refl refl refl refl refl refl
 
 -- a two's complement is odd, and zero, where the number is
 residue-odd : (W H f v : ℕ) → W ≡ 2 * H → f < 2 → v ≤ H → 0 < H → residue W f v % 2 ≡ v % 2
@@ -175,7 +170,7 @@ module _ (n : ℕ) (r : Registers) (t : State) (hn : 1 ≤ n) (two : 2 ≤ n) (h
   X = longDividend n r t
 
   hW : 2 ^ n ≡ 2 * 2 ^ (n - 1)
-  hW = ap (λ (k : ℕ). 2 ^ k) (omega arith) ∙ pow-add 2 1 (n - 1)
+  hW = halved n hn
 
   low-r : register n (r .R) t < 2 ^ n
   low-r = mod-lt _ (pow-pos n)
@@ -368,8 +363,8 @@ module _ (n : ℕ) (r : Registers) (t : State) (hn : 1 ≤ n) (two : 2 ≤ n) (h
         s : u .core .status .s ≡ negative X
         s = steps .dividend-sign ∙ sym dividend-negative
 
-        half : 2 ^ (n - 1) ≡ 2 * 2 ^ (n - 2)
-        half = ap (λ (k : ℕ). 2 ^ k) (omega arith) ∙ pow-add 2 1 (n - 2)
+        half : 2 ^ (n - 1) ≡ 2 * 2 ^ (n - 1 - 1)
+        half = halved (n - 1) (omega arith)
 
         odd-q : Q % 2 ≡ 1
         odd-q = ap (λ (v : ℕ). v % 2) (steps .done .quotient) ∙ even-cut W H (2 * steps .done .c + 1) hW ∙ omega arith
@@ -381,7 +376,7 @@ module _ (n : ℕ) (r : Registers) (t : State) (hn : 1 ≤ n) (two : 2 ≤ n) (h
         v =
             ap (choose (tests (flags n r u)) 0) (overflow-low n (passed n r u) M two hn' (good .m) (ap (λ (v : ℕ). v % 2) low-passed ∙ odd-q))
             ∙ ap₂ (λ (e q : ℕ). choose e 0 (choose M 0 (flag (eqb (byOne W M q) H)))) tested low-passed
-            ∙ overflow-told W H (2 ^ (n - 2)) M Q odd half odd-q (good .m) odd-lt
+            ∙ overflow-told W H (2 ^ (n - 1 - 1)) M Q odd half odd-q (good .m) odd-lt
             ∙ ap₂ (λ (m q : ℕ). choose m 0 (flag (eqb q H))) m (sym quotient-in)
 
         l : readAt (u .file) (r .R) % 2 ≡ (readAt (z .file) (r .R) + choose (readAt (z .file) (r .K) % 2) (readAt (t .file) (r .D)) 0) % 2

@@ -1,11 +1,11 @@
 -- The steps of the signed division: each word up to SDIVLAST1 acts on the selected bits as the step on numbers does.
 use mathlib.Core.Path.{_≡_, refl, sym, ap, ap₂, _∙_, subst}
-use mathlib.Core.Logic.{_≢_, _⊎_, inl, inr}
-use mathlib.Core.List.{List, [], _∷_}
-use Prim.Native.Nat.{ℕ, zero, suc, _+_, _-_, _*_, _/_, _%_, _^_, _≤_, _<_}
+use mathlib.Core.Logic.{_≢_}
+use mathlib.Core.List.{[], _∷_}
+use Prim.Native.Nat.{ℕ, suc, _+_, _-_, _*_, _%_, _^_, _≤_, _<_}
 use native.Mathlib.Nat.{mod-lt}
 use native.Mathlib.Omega.{arith}
-use lib.Pow.{pow-pos, pow-add}
+use lib.Pow.{pow-pos}
 use lib.ListN.{length}
 use Rattle.bits.specs.Bits.{selected, choose, xor, signOf, merged, notOf}
 use Rattle.bits.proofs.BitByBit.{by-flag}
@@ -16,14 +16,13 @@ use Rattle.divide.specs.Steps.{formed, upshifted, signQ, signedBit}
 use Rattle.divide.specs.Divide.{SDIVFIRST, SDIVSTEP, SDIVLAST1}
 use Rattle.chip.specs.Glossary.{performOf}
 use Rattle.chip.specs.Lists.{State, readAt, inputsOf, stepOf, execs}
-use Rattle.sequence.specs.Sequences.{Idle, bitsIn, codeOf, wordOf, wordsOf, times, signedDivideOpcodes}
+use Rattle.sequence.specs.Sequences.{Idle, bitsIn, codeOf, wordOf, wordsOf, signedDivideOpcodes}
 use Rattle.sequence.specs.Results.{register, lowQ, Untouched}
-use Rattle.sequence.proofs.Lists.{Work, view, before, after, Acts, acts-from, carried-back, Reached, start, next, repeated, in-file, word-status, word-y, merged-low, merged-high, bits-of-bytes, sign-top, not-cut, cut-sum}
+use Rattle.sequence.proofs.Lists.{Work, view, before, after, Acts, acts-from, carried-back, Reached, start, next, repeated, in-file, word-status, word-y, merged-low, merged-high, bits-of-bytes, sign-top, not-cut, cut-sum, halved}
 use Rattle.sequence.proofs.TopBit.{top}
 use Rattle.sequence.proofs.DivideNumbers.{operandOf}
 use Rattle.sequence.proofs.Divide.{upshifted-cut, steady, Fits, FlagM}
 use Rattle.sequence.proofs.SignedDivideNumbers.{signedF, likeSigns, signedFirst, signedStep, signedLast, Divisor, Out, Left, step-left, first-left, flag-m, Done, last-done}
-use Rattle.sequence.proofs.SignedCorrections.{Begun}
 
 -- ---- F, for n selected bits
 pub low-sum : (n a b m : ℕ) → n ≤ 32 → a < 2 ^ 32 → m < 2 → (b + choose m a (notOf a) + m) % 2 ^ n ≡ (b % 2 ^ n + operandOf (2 ^ n) (a % 2 ^ n) m) % 2 ^ n
@@ -155,7 +154,7 @@ signed-steps w a b idle t E δ r h1 h4 ab hb ha d hδ hr o =
     fits = (omega arith, omega arith, ha)
 
     pow : W ≡ 2 * 2 ^ (n - 1)
-    pow = ap (λ (x : ℕ). 2 ^ x) (omega arith) ∙ pow-add 2 1 (n - 1)
+    pow = halved n (omega arith)
 
     Going : ℕ → Work → Type 0
     Going k s = Left W D E δ X k s × (s .S ≡ top W (register n b t))

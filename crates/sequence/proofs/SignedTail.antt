@@ -1,5 +1,5 @@
 -- PASS-Q, QUOCORR and REMCORR, the last three words of a signed division: the quotient goes from Q to register K, and both are corrected.
-use mathlib.Core.Path.{_≡_, refl, sym, ap, ap₂, _∙_, subst}
+use mathlib.Core.Path.{_≡_, refl, sym, ap, ap₂, _∙_}
 use mathlib.Core.Logic.{_≢_}
 use mathlib.Core.List.{List, [], _∷_}
 use Prim.Native.Nat.{ℕ, zero, suc, _+_, _-_, _*_, _/_, _%_, _^_, _≤_, _<_, max}
@@ -8,7 +8,7 @@ use native.Mathlib.Decide.{decLe}
 use native.Mathlib.Omega.{arith}
 use lib.Dec.{eqb}
 use lib.Arith.{digits-div, digits-mod}
-use lib.Pow.{pow-pos, pow-add, mod-pow-add}
+use lib.Pow.{pow-pos, mod-pow-add}
 use lib.ListN.{length}
 use borrow.Author.Tests.{eq-eqb, ne-eqb}
 use Rattle.bits.specs.Bits.{selected, choose, flag, xor, bitOf, merged, notOf, carryOf, overflowOf}
@@ -20,9 +20,9 @@ use Rattle.movement.specs.DataMovement.{PASS-Q}
 use Rattle.divide.specs.Divide.{QUOCORR, REMCORR}
 use Rattle.chip.specs.Glossary.{performOf}
 use Rattle.chip.specs.Lists.{State, state, readAt, storeAt, stepOf, execs}
-use Rattle.chip.proofs.Files.{store-length, read-same, read-other}
+use Rattle.chip.proofs.Files.{read-same, read-other}
 use Rattle.sequence.specs.Sequences.{Registers, Unread, wordOf}
-use Rattle.sequence.proofs.Lists.{merged-low, not-cut}
+use Rattle.sequence.proofs.Lists.{merged-low, not-cut, halved}
 use Rattle.sequence.proofs.DivideNumbers.{operandOf}
 use Rattle.sequence.proofs.Divide.{carry-is}
 use Rattle.sequence.proofs.SignedSteps.{low-sum}
@@ -98,7 +98,7 @@ quotient-low n b s h l hm =
     ∙ ap (choose (tests s) (b % 2 ^ n)) (by-flag (λ (m : ℕ). (b + one m + (1 - m)) % 2 ^ n ≡ byOne (2 ^ n) m (b % 2 ^ n)) less more (s .m) hm)
   where
     two : 2 ^ n ≡ 2 * 2 ^ (n - 1)
-    two = ap (λ (k : ℕ). 2 ^ k) (omega arith) ∙ pow-add 2 1 (n - 1)
+    two = halved n (omega arith)
 
     one-low : 1 % 2 ^ n ≡ 1
     one-low = mod-eq-of-lt (omega (arith, two, pow-pos (n - 1)))
@@ -149,10 +149,10 @@ overflow-low n b m h l hm odd = by-flag (λ (m : ℕ). overflowOf n b (one m) (1
     H = 2 ^ (n - 1)
 
     two : 2 ^ n ≡ 2 * 2 ^ (n - 1)
-    two = ap (λ (k : ℕ). 2 ^ k) (omega arith) ∙ pow-add 2 1 (n - 1)
+    two = halved n (omega arith)
 
-    half : 2 ^ (n - 1) ≡ 2 * 2 ^ (n - 2)
-    half = ap (λ (k : ℕ). 2 ^ k) (omega arith) ∙ pow-add 2 1 (n - 2)
+    half : 2 ^ (n - 1) ≡ 2 * 2 ^ (n - 1 - 1)
+    half = halved (n - 1) (omega arith)
 
     -- the selected bits by their top bit and the rest
     parts : b % 2 ^ n ≡ bitOf (n - 1) b * 2 ^ (n - 1) + b % 2 ^ (n - 1)
@@ -164,7 +164,7 @@ overflow-low n b m h l hm odd = by-flag (λ (m : ℕ). overflowOf n b (one m) (1
     -- one less never borrows from an odd number
     some : (k : ℕ) → 1 ≤ k → k ≤ 32 → 0 < b % 2 ^ k → (b % 2 ^ k + notOf 1 % 2 ^ k + 1) / 2 ^ k ≡ 1
     some k hk lk p =
-        let t : 2 ^ k ≡ 2 * 2 ^ (k - 1) = ap (λ (j : ℕ). 2 ^ j) (omega arith) ∙ pow-add 2 1 (k - 1) in
+        let t : 2 ^ k ≡ 2 * 2 ^ (k - 1) = halved k hk in
         let q : 0 < 2 ^ (k - 1) = pow-pos (k - 1) in
         let s : b % 2 ^ k < 2 ^ k = mod-lt b (pow-pos k) in
         let c : notOf 1 % 2 ^ k ≡ 2 ^ k - 1 - 1 = not-cut k 1 lk (omega arith) ∙ ap (λ (v : ℕ). 2 ^ k - 1 - v) (mod-eq-of-lt (omega arith)) in
@@ -176,5 +176,5 @@ overflow-low n b m h l hm odd = by-flag (λ (m : ℕ). overflowOf n b (one m) (1
     up : xor ((b % 2 ^ (n - 1) + 1 % 2 ^ (n - 1) + 0) / 2 ^ (n - 1)) ((b % 2 ^ n + 1 % 2 ^ n + 0) / 2 ^ n) ≡ flag (eqb ((b % 2 ^ n + 1) % 2 ^ n) (2 ^ (n - 1)))
     up =
         ap₂ (λ (u v : ℕ). xor ((b % 2 ^ (n - 1) + u + 0) / 2 ^ (n - 1)) ((b % 2 ^ n + v + 0) / 2 ^ n))
-        (mod-eq-of-lt {n = 1} {m = 2 ^ (n - 1)} (omega (arith, half, pow-pos (n - 2)))) (mod-eq-of-lt {n = 1} {m = 2 ^ n} (omega (arith, two, pow-pos (n - 1))))
+        (mod-eq-of-lt {n = 1} {m = 2 ^ (n - 1)} (omega (arith, half, pow-pos (n - 1 - 1)))) (mod-eq-of-lt {n = 1} {m = 2 ^ n} (omega (arith, two, pow-pos (n - 1))))
         ∙ counted-up (2 ^ n) (2 ^ (n - 1)) (bitOf (n - 1) b) (b % 2 ^ (n - 1)) (b % 2 ^ n) two (bit-lt (n - 1) b) low parts

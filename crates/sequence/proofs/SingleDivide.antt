@@ -1,18 +1,18 @@
 -- The signed division of a single-length dividend: LOADQ-A and SIGN make a double-length one of it, and its quotient fits but for one case.
 use mathlib.Core.Path.{_≡_, refl, sym, ap, ap₂, _∙_, subst}
 use mathlib.Core.Logic.{_≢_, _⊎_, inl, inr}
-use mathlib.Core.List.{List, [], _∷_}
-use Prim.Native.Nat.{ℕ, zero, suc, _+_, _-_, _*_, _/_, _%_, _^_, _≤_, _<_}
+use mathlib.Core.List.{List}
+use Prim.Native.Nat.{ℕ, zero, _+_, _-_, _*_, _/_, _%_, _^_, _≤_, _<_}
 use native.Mathlib.Nat.{mod-lt, mod-eq-of-lt, pos-of-ne-zero, div-le-self, div-lt-iff-lt-mul, mul-le-mul-right, eq-or-lt-of-le}
 use native.Mathlib.Decide.{decLe}
 use native.Mathlib.Omega.{arith}
-use lib.Pow.{pow-pos, pow-add}
+use lib.Pow.{pow-pos}
 use lib.ListN.{length}
 use lib.IntN.{ℤ, subℕ, _+ℤ_, _*ℤ_, natAbs}
 use lib.Signed.{quotZ, remZ}
-use Rattle.bits.specs.Bits.{selected, choose, xor, signOf, merged, notOf, copies}
+use Rattle.bits.specs.Bits.{selected, choose, xor, signOf, merged, copies}
 use Rattle.bits.proofs.BitByBit.{by-flag, bit-lt}
-use Rattle.machine.specs.Status.{withZ, withM}
+use Rattle.machine.specs.Status.{withZ}
 use Rattle.machine.specs.Inputs.{zeroSign}
 use Rattle.movement.specs.DataMovement.{loadQ}
 use Rattle.movement.specs.Logical.{SIGN}
@@ -22,14 +22,14 @@ use Rattle.chip.specs.Lists.{State, state, readAt, storeAt, stepOf, execs}
 use Rattle.chip.proofs.Files.{store-length, read-same, read-other}
 use Rattle.sheet.specs.Sheet.{WordReady}
 use Rattle.sheet.proofs.Positions.{All}
-use Rattle.sheet.proofs.Positions.All.{none, more}
+use Rattle.sheet.proofs.Positions.All.{more}
 use Rattle.run.specs.Run.{Sane}
 use Rattle.run.proofs.Laws.{step-sane}
 use Rattle.sequence.specs.Signed.{signed, Fits}
 use Rattle.sequence.specs.Sequences.{Idle, Registers, Different, Unread, bitsIn, codeOf, wordOf, looking, signedDivideWords, singleDivideWords}
-use Rattle.sequence.specs.Results.{register, lowQ, signedIn, longDividend, TooLarge, signedDividedStatus, SignedDivided}
+use Rattle.sequence.specs.Results.{register, signedIn, longDividend, TooLarge, signedDividedStatus, SignedDivided}
 use Rattle.sequence.proofs.Integers.{sub-same, signed-long}
-use Rattle.sequence.proofs.Lists.{merged-low, merged-high, bits-of-bytes, sign-top, not-cut}
+use Rattle.sequence.proofs.Lists.{merged-low, merged-high, bits-of-bytes, sign-top, not-cut, halved}
 use Rattle.sequence.proofs.TopBit.{top, top-low, top-high, Top, Top.clear, Top.full, top-is, top-lt}
 use Rattle.sequence.proofs.SignedDivideNumbers.{Divisor}
 use Rattle.sequence.proofs.SignAndSize.{sizeOf, divisor-of, signed-sized, quotient-sized, sized-fits}
@@ -65,7 +65,7 @@ spread W x f h hf = by-flag (λ (f : ℕ). subℕ (f * (W - 1) * W + x) (f * W *
 -- and the sign bit is f
 spread-sign : (n f : ℕ) → 1 ≤ n → f < 2 → top (2 ^ n) (f * (2 ^ n - 1)) ≡ f
 spread-sign n f h hf =
-    let two : 2 ^ n ≡ 2 * 2 ^ (n - 1) = ap (λ (k : ℕ). 2 ^ k) (omega arith) ∙ pow-add 2 1 (n - 1) in
+    let two : 2 ^ n ≡ 2 * 2 ^ (n - 1) = halved n (omega arith) in
     by-flag (λ (f : ℕ). top (2 ^ n) (f * (2 ^ n - 1)) ≡ f)
     (top-low (2 ^ n) (0 * (2 ^ n - 1)) (omega (arith, pow-pos n)))
     (top-high (2 ^ n) (1 * (2 ^ n - 1)) (omega (arith, two, pow-pos (n - 1))) (omega (arith, pow-pos n)))
@@ -96,7 +96,7 @@ fits n x d h hd large =
     low-d = mod-lt d (pow-pos n)
 
     two : 2 ^ n ≡ 2 * 2 ^ (n - 1)
-    two = ap (λ (k : ℕ). 2 ^ k) (omega arith) ∙ pow-add 2 1 (n - 1)
+    two = halved n (omega arith)
 
     divisor : Divisor (2 ^ n) (d % 2 ^ n) E δ
     divisor = divisor-of (2 ^ n) (d % 2 ^ n) low-d hd
