@@ -25,7 +25,8 @@ pub data Dividend (W E ρ Y X : ℕ) : Type 0 where
   nonnegative : ρ ≡ 0 → X ≡ Y + E * W → Dividend W E ρ Y X
   negative : ρ ≡ 1 → 0 < Y → X + Y ≡ E * W → Dividend W E ρ Y X
 
--- ---- how the long division of X by 2 E goes
+-- ---- how the long division of X by 2 E goes: P is its quotient and r its remainder. X is (k + W) E + y, or (W - k) E - y where the dividend is
+-- negative, so that half of k decides P, and whether k is odd decides r
 data Case (W E ρ P r k y : ℕ) : Type 0 where
   odd⁺ : ρ ≡ 0 → k % 2 ≡ 1 → 2 * P + 1 ≡ k + W → r ≡ E + y → Case W E ρ P r k y
   even⁺ : ρ ≡ 0 → k % 2 ≡ 0 → 2 * P ≡ k + W → r ≡ y → Case W E ρ P r k y
@@ -33,7 +34,7 @@ data Case (W E ρ P r k y : ℕ) : Type 0 where
   whole⁻ : ρ ≡ 1 → k % 2 ≡ 0 → 0 < k → y ≡ 0 → 2 * P + k ≡ W → r ≡ 0 → Case W E ρ P r k y
   even⁻ : ρ ≡ 1 → k % 2 ≡ 0 → 0 < y → 2 * P + 2 + k ≡ W → r + y ≡ 2 * E → Case W E ρ P r k y
 
--- quotient and remainder are one
+-- there is one quotient and one remainder
 unique : (E P r X p x : ℕ) → X ≡ 2 * E * P + r → r < 2 * E → X ≡ p * (2 * E) + x → x < 2 * E → (P ≡ p) × (r ≡ x)
 unique E P r X p x e h f l = (
   sym (digits-div P {m = 2 * E} {r = r} h) ∙ ap (λ (v : ℕ). v / (2 * E)) (omega (arith, e, f)) ∙ digits-div p l,
