@@ -5,6 +5,7 @@ use mathlib.Core.Logic.{_≢_}
 use mathlib.Core.List.{List, [], _∷_, _++_}
 use Prim.Native.Nat.{ℕ, _-_, _/_}
 use native.Mathlib.Omega.{arith}
+use lib.IntN.{pos, negℤ}
 use Rattle.bits.specs.Bits.{zeroOf, merged, carryOf, overflowOf, putBit}
 use Rattle.machine.specs.Status.{gathered, spreadOut, asRead, loaded}
 use Rattle.movement.specs.DataMovement.{loadQ, PASS-Q}
@@ -19,6 +20,7 @@ use Rattle.fields.specs.BitManipulation.{putStatus, EXTBIT-STAT}
 use Rattle.chip.specs.declared.Word.{Word}
 use Rattle.chip.specs.Glossary.{performOf}
 use Rattle.chip.specs.Lists.{State, state, readAt, storeAt, stepOf, execs}
+use Rattle.sequence.specs.Signed.{signed, signedLong}
 use Rattle.sequence.specs.Sequences.{Registers, Unread, wordOf, looking, wordsOf, times, bitsIn, codeOf, multiplyOpcodes, divideOpcodes, signedMultiplyOpcodes, signedDivideOpcodes, singleDivideWords}
 use Rattle.sequence.specs.Results.{multipliedStatus, dividedStatus}
 use Rattle.sequence.specs.Decimal.{value, Side.at-A, Fields, Layout, decimalWords, summedStatus}
@@ -143,6 +145,12 @@ pub status-summed :
     (summed .core .status ≡ summedStatus 2 0x95 0x10 0 0x05 (loaded 0))
 unfolding performOf stepOf execs readAt storeAt spreadOut loaded zeroOf merged carryOf overflowOf nibbleCarries sum sumCorrect value
 status-summed = (refl, refl, refl, refl)
+
+-- ---- signed numbers: 7F is 127, 80 is -128 and FF is -1 in one byte, whatever is above it; FFFB6C20 is -300,000 in two halves of two bytes
+pub signed-values :
+    (signed 8 0x7f ≡ pos 127) × (signed 8 0x12345680 ≡ negℤ (pos 128)) × (signed 8 0xff ≡ negℤ (pos 1)) × (signed 24 0xff ≡ pos 255) ×
+    (signedLong 16 0xfffb 0x6c20 ≡ negℤ (pos 300000))
+signed-values = (refl, refl, refl, refl, refl)
 
 -- ---- signed divide at one byte: dividend, divisor, remainder, quotient and zero in registers 0 to 4; what stands where the words do not look is zero
 abbrev registers : Registers
