@@ -1,1 +1,1 @@
-// The sequences of document 01 that must come out exact: their lists of words are in specs/, that they do is in proofs/.
+// The sequences that must come out exact, unsigned, signed and decimal: their lists of words are in specs/, that they do is in proofs/.
