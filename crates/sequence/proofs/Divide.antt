@@ -69,13 +69,13 @@ abbrev pub steady : Status → Status
 steady s = withC 0 (withN 0 (withM 0 (withZ 0 (withS 0 (withL 0 s)))))
 
 -- what is asked of the number of selected bits and of the divisor
-abbrev pub Fits : ℕ → ℕ → Type 0
-Fits n A = (1 ≤ n) × (n ≤ 32) × (A < 2 ^ 32)
+abbrev pub Asked : ℕ → ℕ → Type 0
+Asked n A = (1 ≤ n) × (n ≤ 32) × (A < 2 ^ 32)
 
 abbrev pub FlagM : Work → Type 0
 FlagM s = s .M < 2
 
-module _ (x : Inputs) (fits : Fits (bitsOf x) (x .a)) (hm : x .status .m < 2) where
+module _ (x : Inputs) (fits : Asked (bitsOf x) (x .a)) (hm : x .status .m < 2) where
   abbrev n : ℕ
   n = bitsOf x
 
@@ -138,17 +138,17 @@ first-sees x h = λ i. record { B = eB i; Q = eQ i; M = 1; S = 0 }
     eQ : merged (bitsOf x) (upshifted (x .q) 0) (x .q) % 2 ^ bitsOf x ≡ (2 * (x .q % 2 ^ bitsOf x) + 0) % 2 ^ bitsOf x
     eQ = merged-low (bitsOf x) _ (x .q) ∙ upshifted-cut (2 ^ bitsOf x) (x .q) 0
 
-first-acts : (n A : ℕ) → Fits n A → Acts steady n A 0x4f (λ s. Unit) (divFirst (2 ^ n) (A % 2 ^ n))
+first-acts : (n A : ℕ) → Asked n A → Acts steady n A 0x4f (λ s. Unit) (divFirst (2 ^ n) (A % 2 ^ n))
 unfolding performOf UDIVFIRST
-first-acts n A h = acts-from steady n A 0x4f divFirst Fits (λ s. Unit) h (λ x h g. first-sees x (h .0)) (λ x. merged-high (bitsOf x) _ (x .b)) (λ x. merged-high (bitsOf x) _ (x .q)) (λ x. refl)
+first-acts n A h = acts-from steady n A 0x4f divFirst Asked (λ s. Unit) h (λ x h g. first-sees x (h .0)) (λ x. merged-high (bitsOf x) _ (x .b)) (λ x. merged-high (bitsOf x) _ (x .q)) (λ x. refl)
 
-step-acts : (n A : ℕ) → Fits n A → Acts steady n A 0x54 FlagM (divStep (2 ^ n) (A % 2 ^ n))
+step-acts : (n A : ℕ) → Asked n A → Acts steady n A 0x54 FlagM (divStep (2 ^ n) (A % 2 ^ n))
 unfolding performOf UDIVSTEP
-step-acts n A h = acts-from steady n A 0x54 divStep Fits FlagM h step-sees (λ x. merged-high (bitsOf x) _ (x .b)) (λ x. merged-high (bitsOf x) _ (x .q)) (λ x. refl)
+step-acts n A h = acts-from steady n A 0x54 divStep Asked FlagM h step-sees (λ x. merged-high (bitsOf x) _ (x .b)) (λ x. merged-high (bitsOf x) _ (x .q)) (λ x. refl)
 
-last-acts : (n A : ℕ) → Fits n A → Acts steady n A 0x55 FlagM (divLast (2 ^ n) (A % 2 ^ n))
+last-acts : (n A : ℕ) → Asked n A → Acts steady n A 0x55 FlagM (divLast (2 ^ n) (A % 2 ^ n))
 unfolding performOf UDIVLAST
-last-acts n A h = acts-from steady n A 0x55 divLast Fits FlagM h last-sees (λ x. merged-high (bitsOf x) _ (x .b)) (λ x. merged-high (bitsOf x) _ (x .q)) (λ x. refl)
+last-acts n A h = acts-from steady n A 0x55 divLast Asked FlagM h last-sees (λ x. merged-high (bitsOf x) _ (x .b)) (λ x. merged-high (bitsOf x) _ (x .q)) (λ x. refl)
 
 -- ---- REMCORR: B where the sign is 0, else B plus the divisor
 abbrev correctedB : Inputs → ℕ
@@ -207,7 +207,7 @@ rem-q x = refl
 
 -- ---- the last two words, from a state u in which no step is left
 module _ (n code a b : ℕ) (bits : selected code ≡ n) (ab : a ≢ b) (t : State) (hb : b < length (t .file))
-    (fits : Fits n (readAt (t .file) a)) (hD : 0 < register n a t) (i j : Idle) (u : State)
+    (fits : Asked n (readAt (t .file) a)) (hD : 0 < register n a t) (i j : Idle) (u : State)
     (r : Reached steady n code a b (readAt (t .file) a) bits ab t refl hb (Left (2 ^ n) (register n a t) (lowQ n t) 0) u) where
   abbrev x₁ : Inputs
   x₁ = inputsOf (wordOf code a b 0x55 i) u
@@ -227,8 +227,8 @@ module _ (n code a b : ℕ) (bits : selected code ≡ n) (ab : a ≢ b) (t : Sta
   a₁ : readAt (u .file) a ≡ readAt (t .file) a
   a₁ = r .rest .others a ab
 
-  fits₁ : Fits (bitsOf x₁) (x₁ .a)
-  fits₁ = carried-back x₁ n (readAt (t .file) a) bits a₁ Fits fits
+  fits₁ : Asked (bitsOf x₁) (x₁ .a)
+  fits₁ = carried-back x₁ n (readAt (t .file) a) bits a₁ Asked fits
 
   hm : u .core .status .m < 2
   hm = flag-m (2 ^ n) (register n a t) (lowQ n t) 0 (view n b u) (r .holds)
@@ -367,7 +367,7 @@ divide-exact w a b idle t h1 h4 ab hb ha hd h0 =
     bits : selected code ≡ n
     bits = bits-of-bytes w h1 h4
 
-    fits : Fits n A
+    fits : Asked n A
     fits = (omega arith, omega arith, ha)
 
     hD : D < W

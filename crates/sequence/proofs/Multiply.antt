@@ -30,8 +30,8 @@ use Rattle.sequence.proofs.TopBit.{top, off}
 use Rattle.sequence.proofs.MultiplyNumbers.{partialOf, shifted, mulStep, begun, mulLast, Sized, Left, begin-left, step-left, Ended, ended, ended-product, Product, last-product, pow4}
 
 -- the number of selected bits is from 2 to 32
-abbrev Fits : ℕ → ℕ → Type 0
-Fits n A = (2 ≤ n) × (n ≤ 32)
+abbrev Asked : ℕ → ℕ → Type 0
+Asked n A = (2 ≤ n) × (n ≤ 32)
 
 -- ---- F*
 -- the selected bits A extended across the two extra bits, by a sign
@@ -92,11 +92,11 @@ shift-sees x f h hf = λ i. record { B = eB i; Q = eQ i; M = eM i; S = x .status
 
 -- an opcode that leaves F* shifted: what it does is seen in F*; of the status register it changes M alone
 shift-acts :
-    (opcode n A : ℕ) (fine : Work → Type 0) (f : ℕ → ℕ → Work → Work) (F : Inputs → ℕ) → Fits n A → ((x : Inputs) → performOf opcode x ≡ shiftedBy2 x (F x)) →
-    ((x : Inputs) → Fits (bitsOf x) (x .a) → fine (before (bitsOf x) x) → after (bitsOf x) (shiftedBy2 x (F x)) ≡ f (2 ^ bitsOf x) (x .a % 2 ^ bitsOf x) (before (bitsOf x) x)) →
+    (opcode n A : ℕ) (fine : Work → Type 0) (f : ℕ → ℕ → Work → Work) (F : Inputs → ℕ) → Asked n A → ((x : Inputs) → performOf opcode x ≡ shiftedBy2 x (F x)) →
+    ((x : Inputs) → Asked (bitsOf x) (x .a) → fine (before (bitsOf x) x) → after (bitsOf x) (shiftedBy2 x (F x)) ≡ f (2 ^ bitsOf x) (x .a % 2 ^ bitsOf x) (before (bitsOf x) x)) →
     Acts (withM 0) n A opcode fine (f (2 ^ n) (A % 2 ^ n))
 shift-acts opcode n A fine f F h does sees =
-    acts-from (withM 0) n A opcode f Fits fine h
+    acts-from (withM 0) n A opcode f Asked fine h
     (λ x h g. ap (after (bitsOf x)) (does x) ∙ sees x h g)
     (λ x. ap (λ (o : Outputs). o .y / 2 ^ bitsOf x) (does x) ∙ merged-high (bitsOf x) _ (x .b))
     (λ x. ap (λ (o : Outputs). o .q / 2 ^ bitsOf x) (does x) ∙ merged-high (bitsOf x) _ (x .q))
@@ -152,7 +152,7 @@ module _ (kind : Kind) where
   stepped W A s = mulStep W (star W A (kind .sign W A)) s
 
   -- from the selected bits B and their B*
-  partial-sees : (x : Inputs) → Fits (bitsOf x) (x .a) → (B b m : ℕ) → Sized (2 ^ bitsOf x) B (top (2 ^ bitsOf x) B) → b ≡ star (2 ^ bitsOf x) B (top (2 ^ bitsOf x) B) → m < 2
+  partial-sees : (x : Inputs) → Asked (bitsOf x) (x .a) → (B b m : ℕ) → Sized (2 ^ bitsOf x) B (top (2 ^ bitsOf x) B) → b ≡ star (2 ^ bitsOf x) B (top (2 ^ bitsOf x) B) → m < 2
       → after (bitsOf x) (shiftedBy2 x (partialIn x b m)) ≡ stepped (2 ^ bitsOf x) (x .a % 2 ^ bitsOf x) (record { B = B; Q = x .q % 2 ^ bitsOf x; M = m; S = x .status .s })
   unfolding mulStep
   partial-sees x h B b m sized e hm =
@@ -161,13 +161,13 @@ module _ (kind : Kind) where
       ∙ partial-is (bitsOf x) _ _ (x .q) m (h .0) (h .1) hm (star-lt _ _ _ (kind .sized (bitsOf x) (x .a) (omega arith))) (star-lt _ _ _ sized))
       ∙ shift-sees x _ (h .0) (mod-lt _ (omega (arith, pow-pos (bitsOf x))))
 
-  inner-acts : (n A : ℕ) → Fits n A → Acts (withM 0) n A (kind .inner) (λ s. s .M < 2) (stepped (2 ^ n) (A % 2 ^ n))
+  inner-acts : (n A : ℕ) → Asked n A → Acts (withM 0) n A (kind .inner) (λ s. s .M < 2) (stepped (2 ^ n) (A % 2 ^ n))
   unfolding step
   inner-acts n A h =
       shift-acts (kind .inner) n A (λ s. s .M < 2) stepped (λ x. partialIn x (signExtended (bitsOf x) (x .b)) (x .status .m)) h (kind .inner-does)
       (λ x h g. partial-sees x h _ _ _ (signed-sized (bitsOf x) (x .b) (omega arith)) (signed-star (bitsOf x) (x .b) (omega arith)) g)
 
-  first-acts : (n A : ℕ) → Fits n A → Acts (withM 0) n A (kind .first) (λ s. Unit) (λ s. stepped (2 ^ n) (A % 2 ^ n) (begun s))
+  first-acts : (n A : ℕ) → Asked n A → Acts (withM 0) n A (kind .first) (λ s. Unit) (λ s. stepped (2 ^ n) (A % 2 ^ n) (begun s))
   unfolding firstStep
   first-acts n A h =
       shift-acts (kind .first) n A (λ s. Unit) (λ W A s. stepped W A (begun s)) (λ x. partialIn x 0 0) h (λ x. kind .first-does x ∙ ap (shiftedBy2 x) (first-is (bitsOf x) _ (x .q)))
@@ -234,7 +234,7 @@ module _ (kind : Kind) (w a b : ℕ) (t : State) (h1 : 1 ≤ w) (h4 : w ≤ 4) (
       bits : selected code ≡ n
       bits = bits-of-bytes w h1 h4
 
-      fit : Fits n A₀
+      fit : Asked n A₀
       fit = (omega arith, omega arith)
 
       sized : Sized W A sign

@@ -21,7 +21,7 @@ use Rattle.sequence.specs.Results.{register, lowQ, Untouched}
 use Rattle.sequence.proofs.Lists.{Work, view, before, after, Acts, acts-from, carried-back, Reached, start, next, repeated, in-file, word-status, word-y, merged-low, merged-high, bits-of-bytes, sign-top, not-cut, cut-sum, halved}
 use Rattle.sequence.proofs.TopBit.{top}
 use Rattle.sequence.proofs.DivideNumbers.{operandOf}
-use Rattle.sequence.proofs.Divide.{upshifted-cut, steady, Fits, FlagM}
+use Rattle.sequence.proofs.Divide.{upshifted-cut, steady, Asked, FlagM}
 use Rattle.sequence.proofs.SignedDivideNumbers.{signedF, likeSigns, signedFirst, signedStep, signedLast, Divisor, Out, Left, step-left, first-left, flag-m, Done, last-done}
 
 -- ---- F, for n selected bits
@@ -37,7 +37,7 @@ low-sum n a b m hn ha hm =
     taken = let h : a % 2 ^ n < 2 ^ n = mod-lt a (pow-pos n) in omega arith
 
 -- ---- the words
-module _ (x : Inputs) (fits : Fits (bitsOf x) (x .a)) where
+module _ (x : Inputs) (fits : Asked (bitsOf x) (x .a)) where
   abbrev n : ℕ
   n = bitsOf x
 
@@ -82,17 +82,17 @@ module _ (x : Inputs) (fits : Fits (bitsOf x) (x .a)) where
   unfolding performOf SDIVLAST1
   last-n = top-of (formed x (x .status .m)) ∙ ap (top W) (sym (merged-low n (formed x (x .status .m)) (x .b)))
 
-first-acts : (n A : ℕ) → Fits n A → Acts steady n A 0x4e (λ s. Unit) (signedFirst (2 ^ n) (A % 2 ^ n))
+first-acts : (n A : ℕ) → Asked n A → Acts steady n A 0x4e (λ s. Unit) (signedFirst (2 ^ n) (A % 2 ^ n))
 unfolding performOf SDIVFIRST
-first-acts n A h = acts-from steady n A 0x4e signedFirst Fits (λ s. Unit) h (λ x h g. first-sees x h) (λ x. merged-high (bitsOf x) _ (x .b)) (λ x. merged-high (bitsOf x) _ (x .q)) (λ x. refl)
+first-acts n A h = acts-from steady n A 0x4e signedFirst Asked (λ s. Unit) h (λ x h g. first-sees x h) (λ x. merged-high (bitsOf x) _ (x .b)) (λ x. merged-high (bitsOf x) _ (x .q)) (λ x. refl)
 
-step-acts : (n A : ℕ) → Fits n A → Acts steady n A 0x50 FlagM (signedStep (2 ^ n) (A % 2 ^ n))
+step-acts : (n A : ℕ) → Asked n A → Acts steady n A 0x50 FlagM (signedStep (2 ^ n) (A % 2 ^ n))
 unfolding performOf SDIVSTEP
-step-acts n A h = acts-from steady n A 0x50 signedStep Fits FlagM h step-sees (λ x. merged-high (bitsOf x) _ (x .b)) (λ x. merged-high (bitsOf x) _ (x .q)) (λ x. refl)
+step-acts n A h = acts-from steady n A 0x50 signedStep Asked FlagM h step-sees (λ x. merged-high (bitsOf x) _ (x .b)) (λ x. merged-high (bitsOf x) _ (x .q)) (λ x. refl)
 
-last-acts : (n A : ℕ) → Fits n A → Acts steady n A 0x51 FlagM (signedLast (2 ^ n) (A % 2 ^ n))
+last-acts : (n A : ℕ) → Asked n A → Acts steady n A 0x51 FlagM (signedLast (2 ^ n) (A % 2 ^ n))
 unfolding performOf SDIVLAST1
-last-acts n A h = acts-from steady n A 0x51 signedLast Fits FlagM h last-sees (λ x. merged-high (bitsOf x) _ (x .b)) (λ x. merged-high (bitsOf x) _ (x .q)) (λ x. refl)
+last-acts n A h = acts-from steady n A 0x51 signedLast Asked FlagM h last-sees (λ x. merged-high (bitsOf x) _ (x .b)) (λ x. merged-high (bitsOf x) _ (x .q)) (λ x. refl)
 
 -- ---- one SDIVFIRST, n - 1 SDIVSTEP, one SDIVLAST1, with the divisor in register a and the dividend's high half in register b
 pub record Stepped (n a b E δ X : ℕ) (t u : State) : Type 0 where
@@ -150,7 +150,7 @@ signed-steps w a b idle t E δ r h1 h4 ab hb ha d hδ hr o =
     bits : selected code ≡ n
     bits = bits-of-bytes w h1 h4
 
-    fits : Fits n A
+    fits : Asked n A
     fits = (omega arith, omega arith, ha)
 
     pow : W ≡ 2 * 2 ^ (n - 1)
@@ -174,5 +174,5 @@ signed-steps w a b idle t E δ r h1 h4 ab hb ha d hδ hr o =
         sign i u h e =
             let x : Inputs = inputsOf (wordOf code a b 0x51 i) u in
             ap (λ (s : Status). s .n) (word-status n code a b bits i 0x51 u h)
-            ∙ subst (λ (k : ℕ). performOf 0x51 x .status .n ≡ top (2 ^ k) (performOf 0x51 x .y % 2 ^ k)) bits (last-n x (carried-back x n A bits e Fits fits))
+            ∙ subst (λ (k : ℕ). performOf 0x51 x .status .n ≡ top (2 ^ k) (performOf 0x51 x .y % 2 ^ k)) bits (last-n x (carried-back x n A bits e Asked fits))
             ∙ ap (λ (y : ℕ). top W (y % W)) (sym (word-y n code a b bits i 0x51 u h))

@@ -11,9 +11,9 @@ pub record Idle : Type 0 where
   pub carry : ℕ
   pub link : ℕ
 
--- a word of such a sequence: A is register a; B is register b, and Y is written back to it; macro select and borrow are 0
-abbrev pub wordOf : ℕ → ℕ → ℕ → ℕ → Idle → Word
-wordOf code a b opcode i =
+-- a word of such a sequence, with Y to register y where write is 1: A is register a, B is register b; macro select and borrow are 0
+abbrev pub sequenceWord : ℕ → ℕ → ℕ → ℕ → ℕ → ℕ → Idle → Word
+sequenceWord code a b y write opcode i =
     record {
       opcode = opcode;
       code = code;
@@ -21,13 +21,21 @@ wordOf code a b opcode i =
       width = i .width;
       a = a;
       b = b;
-      y = b;
-      write = 1;
+      y = y;
+      write = write;
       select = 0;
       carry = i .carry;
       link = i .link;
       borrow = 0;
     }
+
+-- one that writes Y back to B
+abbrev pub wordOf : ℕ → ℕ → ℕ → ℕ → Idle → Word
+wordOf code a b opcode i = sequenceWord code a b b 1 opcode i
+
+-- one that writes nothing
+abbrev pub looking : ℕ → ℕ → ℕ → ℕ → Idle → Word
+looking code a b opcode i = sequenceWord code a b 0 0 opcode i
 
 -- a word for each of the opcodes, with the same registers and byte code in every word; the idle fields of each word as they come
 unfoldable pub wordsOf : ℕ → ℕ → ℕ → List ℕ → (ℕ → Idle) → List Word
@@ -68,7 +76,7 @@ signedMultiplyOpcodes w = 0x5f ∷ times (bitsIn w / 2 - 1) 0x5e []
 abbrev pub signedMultiplyWords : ℕ → ℕ → ℕ → (ℕ → Idle) → List Word
 signedMultiplyWords w a b idle = wordsOf (codeOf w) a b (signedMultiplyOpcodes w) idle
 
--- the registers of a signed division: divisor, remainder, quotient, and one that is zero, which may be that of the quotient
+-- the registers of a signed division: D is the divisor's, R the remainder's, K the quotient's, and O is zero, which may be the quotient's too
 pub record Registers : Type 0 where
   pub D : ℕ
   pub R : ℕ
@@ -82,24 +90,7 @@ pub record Different (r : Registers) : Type 0 where
   pub remainder-quotient : r .R ≢ r .K
   pub zero-remainder : r .O ≢ r .R
 
--- a word that writes nothing, and one that looks at a place of the status register alone
-abbrev pub looking : ℕ → ℕ → ℕ → ℕ → Idle → Word
-looking code a b opcode i =
-    record {
-      opcode = opcode;
-      code = code;
-      position = i .position;
-      width = i .width;
-      a = a;
-      b = b;
-      y = 0;
-      write = 0;
-      select = 0;
-      carry = i .carry;
-      link = i .link;
-      borrow = 0;
-    }
-
+-- a word that looks at a place of the status register alone, and writes nothing
 abbrev pub onStatus : ℕ → ℕ → ℕ → ℕ → Idle → Word
 onStatus place a b opcode i = looking 0 a b opcode (record { position = place; width = i .width; carry = i .carry; link = i .link })
 
