@@ -1,6 +1,7 @@
-// The reasons that document 01 gives, and what a check answers.
+// The reasons that document 01 gives and document 02 adds, and what a check answers.
 ghost use mathlib.Core.Path.{_≡_};
 ghost use Rattle.reasons.specs.Reasons.{numberOf, outcomeOf, checkNumbers};
+ghost use Rattle.reasons.specs.Output.{withheld};
 
 pub enum Reason {
     Done,
@@ -18,6 +19,8 @@ pub enum Reason {
     Overlap,
     Schedule,
     Room,
+    Text,
+    Count,
 }
 
 // Nothing to refuse, or the reason and its place.
@@ -31,6 +34,12 @@ pub enum Check {
 pub struct Outcome {
     pub reason: u32,
     pub place: u64,
+}
+
+// What a call answers that writes into a lent buffer: how many bytes it wrote, 0 where it is refused.
+pub struct Output {
+    pub check: Check,
+    pub bytes: usize,
 }
 
 // The paper's number of a reason.
@@ -53,6 +62,8 @@ pub fn number(r: Reason) -> u32
         Reason::Overlap => 12,
         Reason::Schedule => 13,
         Reason::Room => 14,
+        Reason::Text => 15,
+        Reason::Count => 16,
     }
 }
 
@@ -73,5 +84,15 @@ pub fn numbered_check(check: Check) -> Outcome
     match check {
         Check::Good => numbered(Reason::Done, 0),
         Check::Bad { reason, place } => numbered(reason, place),
+    }
+}
+
+// A call that is refused has written nothing.
+pub fn nothing_written(reason: Reason, place: usize) -> Output
+    ensures { λ r. ⌜ r ≡ withheld reason place ⌝ }
+{
+    Output {
+        check: Check::Bad { reason, place },
+        bytes: 0,
     }
 }
