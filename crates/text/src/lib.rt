@@ -1,7 +1,9 @@
-// Text that the programs write: upper-case hex digits in arrays by value.
+// Text: digits in arrays by value, and lines into a lent text.
 ghost use mathlib.Core.Path.{_≡_};
-ghost use Prim.Native.Nat.{_<_};
-ghost use Rattle.text.specs.Text.{digitOf, hexOf};
+ghost use Prim.Native.Nat.{_+_, _≤_, _<_};
+ghost use lib.ListN.{length};
+ghost use Rattle.text.specs.Text.{digitOf, hexOf, decimalOf};
+ghost use Rattle.text.specs.Fill.{Added};
 
 // The byte of one hex digit.
 pub fn digit(d: u32) -> u8
@@ -44,4 +46,30 @@ pub fn hex8(x: u32) -> [u8; 8]
         digit(x / 16 % 16),
         digit(x / 1 % 16),
     ]
+}
+
+// One decimal digit, and two: the low ones of a number.
+pub fn decimal1(x: u32) -> [u8; 1]
+    ensures { λ r. ⌜ r ≡ decimalOf 1 x ⌝ }
+{
+    [digit(x / 1 % 10)]
+}
+
+pub fn decimal2(x: u32) -> [u8; 2]
+    ensures { λ r. ⌜ r ≡ decimalOf 2 x ⌝ }
+{
+    [digit(x / 10 % 10), digit(x / 1 % 10)]
+}
+
+// A line into a text at a place; where it ends.
+pub fn put(line: &[u8], text: &mut [u8], at: usize) -> usize
+    requires { ⌜ at + length (now line) ≤ length (now text) ⌝ }
+    ensures { λ r. ⌜ Added (now (line .entry)) at (now (text .entry)) r (now (text .exit)) ⌝ }
+{
+    let mut k: usize = 0;
+    while k < line.len() {
+        text[at + k] = line[k];
+        k += 1;
+    }
+    at + k
 }

@@ -17,15 +17,17 @@ use Rattle.reasons.specs.declared.Reason.the-variants.{Done}
 use Rattle.reasons.specs.declared.Check.{Check}
 use Rattle.reasons.specs.declared.Check.the-variants.{Good as Passed, Bad}
 use Rattle.reasons.specs.Reasons.{numberOf}
-use Rattle.text.specs.Text.{hexOf}
+use Rattle.text.specs.Text.{hexOf, decimalOf}
+use Rattle.text.specs.Fill.{Put, Written}
+use Rattle.text.proofs.Fill.{put-on, put-as, written-on, written-alone, written-as}
 use Rattle.chip.specs.declared.Word.{Word}
 use Rattle.chip.specs.Lists.{State, state, shownOf, stepOf}
 use Rattle.sheet.specs.Sheet.{wordsOf, wordAt, executionsOf, inputOf}
 use Rattle.sheet.proofs.Positions.{executions-length, executions-next}
 use Rattle.run.specs.Run.{entering, Stepped}
 use Rattle.tracing.specs.Input.{fileIn}
-use Rattle.tracing.specs.Lines.{lineOf, lineLength, linesOf, decimalOf, lastOf, lastLength, tracedOf, textBy, textOf}
-use Rattle.tracing.specs.Fill.{Put, Traced, Filled, Written}
+use Rattle.tracing.specs.Lines.{lineOf, lineLength, linesOf, lastOf, lastLength, tracedOf, textBy, textOf}
+use Rattle.tracing.specs.Fill.{Traced, Filled}
 
 -- ---- one line
 -- the four digits of a number's low sixteen bits are its low four digits
@@ -37,7 +39,7 @@ four-digits n =
     let e₀ : n % 65536 / 1 % 16 ≡ n / 1 % 16 = omega arith in
     rw (e₃, e₂, e₁, e₀) refl
 
-pub last-is : (n p : List ℕ) (reason : Reason) (k place : ℕ) → k ≡ numberOf reason → n ≡ decimalOf k → p ≡ hexOf 4 place
+pub last-is : (n p : List ℕ) (reason : Reason) (k place : ℕ) → k ≡ numberOf reason → n ≡ decimalOf 2 k → p ≡ hexOf 4 place
     → getD n 0 0 ∷ getD n 1 0 ∷ 32 ∷ getD p 0 0 ∷ getD p 1 0 ∷ getD p 2 0 ∷ getD p 3 0 ∷ 10 ∷ [] ≡ lastOf reason place
 unfolding lastOf
 last-is n p reason k place e f g = rw (f, g, e) refl
@@ -59,41 +61,6 @@ line-length index x = refl
 pub last-length : (reason : Reason) (place : ℕ) → length (lastOf reason place) ≡ lastLength
 unfolding lastOf
 last-length reason place = refl
-
--- ---- a line copied byte by byte
-pub record Copying (line before : List ℕ) (at : ℕ) (text : List ℕ) (k : ℕ) : Type 0 where
-  pub upto : k ≤ length line
-  pub size : length text ≡ length before
-  pub bytes : text ≡ paste before at line k
-
-pub copying-start : (line before : List ℕ) (at : ℕ) → Copying line before at before 0
-copying-start line before at = record { upto = omega arith; size = refl; bytes = paste-zero before at line }
-
-module _ {line before : List ℕ} {at : ℕ} {text : List ℕ} {k : ℕ} (c : Copying line before at text k) where
-  pub copying-more : k < length line → at + length line ≤ length before → Copying line before at (set text (at + k) (getD line k 0)) (k + 1)
-  copying-more h r =
-      let e : set (paste before at line k) (at + k) (getD line k 0) ≡ paste before at line (suc k) = paste-suc before at line k 0 (omega arith) h in
-      record {
-        upto = omega arith;
-        size = length-set text (at + k) (getD line k 0) ∙ c .size;
-        bytes = ap (λ (t : List ℕ). set t (at + k) (getD line k 0)) (c .bytes) ∙ e ∙ ap (paste before at line) (sym (add-one k));
-      }
-
-  pub copying-done : length line ≤ k → Put line at before text
-  copying-done h =
-      let e : k ≡ length line = omega (arith, c .upto) in
-      record { bytes = c .bytes ∙ ap (paste before at line) e ∙ ap (λ (l : List ℕ). take at before ++ l ++ drop (at + length line) before) (take-length line) }
-
--- ---- a line into a text that starts with another: the text goes on with it
-pub put-on : (front line before middle after : List ℕ) (at : ℕ) → length front ≡ at → middle ≡ front ++ drop at before → Put line at middle after
-    → after ≡ front ++ line ++ drop (at + length line) before
-put-on front line before middle after at n e p =
-    p .bytes ∙ ap (λ (m : List ℕ). take at m ++ line ++ drop (at + length line) m) e
-    ∙ ap₂ (λ (a b : List ℕ). a ++ line ++ b) (take-at front (drop at before) at n)
-    (sym (drop-drop (length line) at (front ++ drop at before)) ∙ ap (drop (length line)) (drop-at front (drop at before) at n) ∙ drop-drop (length line) at before)
-
-pub put-as : {line other : List ℕ} {at : ℕ} {before after : List ℕ} → line ≡ other → Put line at before after → Put other at before after
-put-as {line} {other} {at} {before} {after} e p = subst (λ (m : List ℕ). Put m at before after) e p
 
 -- an execution that was run, and its line put in its place
 pub traced-is : {w : Word} {index : ℕ} {t : State} {l : List ℕ} {x : Shown} {line before after : List ℕ} → Stepped w t l x → line ≡ lineOf index x
@@ -173,39 +140,17 @@ lines-length i (w ∷ ws) t =
 pub filled-length : (s file : List ℕ) {before after : List ℕ} {n : ℕ} → Filled s file before n after → n ≡ lineLength * wordsOf s
 filled-length s file w = w .size ∙ lines-length 0 (executionsOf s) (entering file freshOf) ∙ ap (λ (k : ℕ). lineLength * k) (executions-length s)
 
--- ---- the last line after them, and by itself
-last-after : {lines line before middle after : List ℕ} {n : ℕ} → Written lines before n middle → n + length line ≤ length before → Put line n middle after
-    → Written (lines ++ line) before (n + length line) after
-last-after {lines} {line} {before} {middle} {after} {n} w r p = record {
-  size = ap (λ (k : ℕ). k + length line) (w .size) ∙ sym (length-append lines line);
-  fits = r;
-  bytes = put-on lines line before middle after n (sym (w .size)) (w .bytes) p;
-}
-
-last-alone : {line before after : List ℕ} → length line ≤ length before → Put line 0 before after → Written line before (0 + length line) after
-last-alone {line} r p = let z : 0 + length line ≡ length line = omega arith in record { size = z; fits = omega arith; bytes = p .bytes }
-
-written-as : {text other before after : List ℕ} {n m : ℕ} → text ≡ other → m ≡ n → Written text before n after → Written other before m after
-written-as {text} {other} {before} {after} {n} {m} e f w =
-    subst (λ (t : List ℕ). Written t before m after) e (subst (λ (k : ℕ). Written text before k after) (sym f) w)
-
 -- ---- the whole
 pub text-refused : (x : List ℕ) {before after : List ℕ} {reason : Reason} {place r : ℕ} → inputOf x ≡ Bad reason place → lastLength ≤ length before
     → Put (lastOf reason place) 0 before after → r ≡ 0 + length (lastOf reason place) → Written (textOf x) before r after
 unfolding textOf
 text-refused x {reason = reason} {place = place} e h p f =
-    written-as (sym (ap (λ (c : Check). textBy c x) e)) f (last-alone (omega (arith, last-length reason place)) p)
+    written-as (sym (ap (λ (c : Check). textBy c x) e)) f (written-alone (omega (arith, last-length reason place)) p)
 
 pub text-done : (x file : List ℕ) {before middle after : List ℕ} {place n r : ℕ} → inputOf x ≡ Passed → file ≡ fileIn x → place ≡ length (executionsOf x) → Filled x file before n middle
     → n + lastLength ≤ length before → Put (lastOf Done place) n middle after → r ≡ n + length (lastOf Done place) → Written (textOf x) before r after
 unfolding textOf tracedOf
-text-done x file {place = place} e g k w h p f = written-as (lines ∙ sym (ap (λ (c : Check). textBy c x) e)) f (last-after w (omega (arith, last-length Done place)) p)
+text-done x file {place = place} e g k w h p f = written-as (lines ∙ sym (ap (λ (c : Check). textBy c x) e)) f (written-on w (omega (arith, last-length Done place)) p)
   where
     lines : linesOf 0 (executionsOf x) (entering file freshOf) ++ lastOf Done place ≡ textBy Passed x
     lines = rw (g, k) refl
-
--- no second length and no second text
-pub one-text : {text before after other : List ℕ} {n m : ℕ} → Written text before n after → Written text before m other → (n ≡ m) × (after ≡ other)
-one-text {text} {before} w v =
-    let e = w .size ∙ sym (v .size) in
-    (e, w .bytes ∙ ap (λ (k : ℕ). text ++ drop k before) e ∙ sym (v .bytes))

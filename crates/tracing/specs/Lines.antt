@@ -1,6 +1,6 @@
 -- What the trace program writes: a line for each execution, and a last line of its own kind.
 use mathlib.Core.List.{List, [], _∷_, _++_}
-use Prim.Native.Nat.{ℕ, _+_, _/_, _%_}
+use Prim.Native.Nat.{ℕ, _+_}
 use lib.ListN.{length}
 use Rattle.machine.specs.declared.Shown.{Shown}
 use Rattle.machine.specs.Status.{asRead}
@@ -10,18 +10,13 @@ use Rattle.reasons.specs.declared.Reason.the-variants.{Done}
 use Rattle.reasons.specs.declared.Check.{Check}
 use Rattle.reasons.specs.declared.Check.the-variants.{Good, Bad}
 use Rattle.reasons.specs.Reasons.{numberOf}
-use Rattle.text.specs.Text.{digitOf, hexOf}
+use Rattle.text.specs.Text.{hexOf, decimalOf}
+use Rattle.text.specs.Ascii.{space, newline}
 use Rattle.chip.specs.declared.Word.{Word}
 use Rattle.chip.specs.Lists.{State, shownOf, stepOf}
 use Rattle.sheet.specs.Sheet.{executionsOf, inputOf}
 use Rattle.run.specs.Run.{entering}
 use Rattle.tracing.specs.Input.{fileIn}
-
-abbrev pub space : ℕ
-space = 32
-
-abbrev pub newline : ℕ
-newline = 10
 
 -- an execution's line: its index in four hex digits, then Y, Q and status in eight each, one space between
 unfoldable pub lineOf : ℕ → Shown → List ℕ
@@ -41,13 +36,9 @@ unfoldable pub linesOf : ℕ → List Word → State → List ℕ
 linesOf index [] t = []
 linesOf index (w ∷ ws) t = lineOf index (shownOf w t) ++ linesOf (index + 1) ws (stepOf w t)
 
--- two decimal digits
-abbrev pub decimalOf : ℕ → List ℕ
-decimalOf n = digitOf (n / 10 % 10) ∷ digitOf (n % 10) ∷ []
-
 -- the last line: the reason as two decimal digits, the place as four hex digits
 unfoldable pub lastOf : Reason → ℕ → List ℕ
-lastOf reason place = decimalOf (numberOf reason) ++ space ∷ hexOf 4 place ++ newline ∷ []
+lastOf reason place = decimalOf 2 (numberOf reason) ++ space ∷ hexOf 4 place ++ newline ∷ []
 
 -- its bytes
 abbrev pub lastLength : ℕ

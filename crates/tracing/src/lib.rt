@@ -14,8 +14,9 @@ ghost use Rattle.chip.specs.Lists.{state};
 ghost use Rattle.text.specs.Text.{hexOf};
 ghost use Rattle.sheet.specs.Sheet.{wordsOf, declaredOf, wordAt, inputOf, Ready};
 ghost use Rattle.tracing.specs.Input.{sizeOf, registerAt, registersFrom};
-ghost use Rattle.tracing.specs.Lines.{lineOf, decimalOf, lastOf, textOf};
-ghost use Rattle.tracing.specs.Fill.{Put, Traced, Filled, Written};
+ghost use Rattle.text.specs.Fill.{Added, Written};
+ghost use Rattle.tracing.specs.Lines.{lineOf, lastOf, textOf};
+ghost use Rattle.tracing.specs.Fill.{Traced, Filled};
 
 // The bytes of an execution's line, and of the last line.
 const LINE: usize = 32;
@@ -32,13 +33,6 @@ fn four(n: usize) -> [u8; 4]
     ensures { λ r. ⌜ r ≡ hexOf 4 n ⌝ }
 {
     text::hex4((n % 65536) as u32)
-}
-
-// The low two decimal digits of a number.
-fn two_decimal(n: u32) -> [u8; 2]
-    ensures { λ r. ⌜ r ≡ decimalOf n ⌝ }
-{
-    [text::digit(n / 10 % 10), text::digit(n % 10)]
 }
 
 // The line of an execution: index, Y, Q, status.
@@ -92,7 +86,7 @@ fn line(index: usize, shown: Shown) -> [u8; LINE]
 fn last_line(reason: Reason, place: usize) -> [u8; LAST]
     ensures { λ r. ⌜ r ≡ lastOf reason place ⌝ }
 {
-    let n = two_decimal(reasons::number(reason));
+    let n = text::decimal2(reasons::number(reason));
     let p = four(place);
     [n[0], n[1], b' ', p[0], p[1], p[2], p[3], b'\n']
 }
@@ -129,26 +123,13 @@ fn load(input: &[u8], at: usize, file: &mut [u32])
 
 // ---- a run, shown
 
-// A line into a text at a place.
-fn put(line: &[u8], text: &mut [u8], at: usize)
-    requires { ⌜ at + length (now line) ≤ length (now text) ⌝ }
-    ensures { λ _. ⌜ Put (now (line .entry)) at (now (text .entry)) (now (text .exit)) ⌝ }
-{
-    let mut k: usize = 0;
-    while k < line.len() {
-        text[at + k] = line[k];
-        k += 1;
-    }
-}
-
 // The last line into a text at a place; where the text ends.
 fn put_last(text: &mut [u8], at: usize, reason: Reason, place: usize) -> usize
     requires { ⌜ at + 8 ≤ length (now text) ⌝ }
-    ensures { λ r. ⌜ Put (lastOf reason place) at (now (text .entry)) (now (text .exit)) × (r ≡ at + length (lastOf reason place)) ⌝ }
+    ensures { λ r. ⌜ Added (lastOf reason place) at (now (text .entry)) r (now (text .exit)) ⌝ }
 {
     let line = last_line(reason, place);
-    put(&line, text, at);
-    at + LAST
+    text::put(&line, text, at)
 }
 
 // Execution `index` of a sheet, run, and its line in its place. The sheet was checked once: this checks nothing again.
@@ -160,7 +141,7 @@ fn trace_word(sheet: &[u8], index: usize, file: &mut [u32], core: Core, text: &m
     let shown = run::step_at(sheet, sheet, Which::Main, index, file, core);
     let after = shown.core;
     let line = line(index, shown);
-    put(&line, text, LINE * index);
+    text::put(&line, text, LINE * index);
     after
 }
 

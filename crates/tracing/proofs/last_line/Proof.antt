@@ -5,7 +5,7 @@ use Rattle.tracing.proofs.last_line.Statement.{statement}
 use Rattle.tracing.proofs.last_line.Tie as tie
 
 returns : tie.Need-returns
-returns c = let a = c .before .before .before .args in last-is (c .before .two-decimal .result) (c .four .result) (a .reason) (c .before .before .number .result) (a .place) (c .before .before .number .ensures) (c .before .two-decimal .ensures) (c .four .ensures)
+returns c = let a = c .before .before .before .args in last-is (c .before .decimal2 .result) (c .four .result) (a .reason) (c .before .before .number .result) (a .place) (c .before .before .number .ensures) (c .before .decimal2 .ensures) (c .four .ensures)
 
 pub last-line-spec : {M : Type 1} → statement M
 last-line-spec =

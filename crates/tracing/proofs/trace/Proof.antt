@@ -13,7 +13,7 @@ returns c =
     let k = c .before .before .before .before .before .before .before in
     let z = k .before .before .before in
     let p = c .before .before .put-last in
-    text-refused (now (z .args .input)) (sym (k .check-input .ensures) ∙ c .before .before .before .before .before .check .given .1) (omega (arith, z .pre)) (p .ensures .0) (p .ensures .1)
+    text-refused (now (z .args .input)) (sym (k .check-input .ensures) ∙ c .before .before .before .before .before .check .given .1) (omega (arith, z .pre)) (p .ensures .put) (p .ensures .ends)
 
 declared-requires : tie.Need-declared-requires
 declared-requires c κs =

@@ -44,7 +44,7 @@ returns c =
     let l = c .before .before .before .before .before .before .before .before .before .before .before .before .before .before .load in
     let p = c .before .before .put-last in
     text-done (now (z .args .input)) _ (z .pre .0) (input-file (now (z .args .input)) (z .pre .0) _ _ (c .before .before .before .before .before .before .before .before .before .before .before .before .before .before .before .before .sheet-size .ensures) (z .pre .1) (l .ensures)) (n .ensures) (f .ensures)
-    (omega (arith, filled-length _ _ (f .ensures), words-few (now (z .args .input)), z .pre .2)) (p .ensures .0) (p .ensures .1)
+    (omega (arith, filled-length _ _ (f .ensures), words-few (now (z .args .input)), z .pre .2)) (p .ensures .put) (p .ensures .ends)
 
 pub trace-run-spec : {M : Type 1} → statement M
 trace-run-spec =

@@ -22,7 +22,7 @@ put-requires c κs =
 
 returns : tie.Need-returns
 returns c =
-    traced-is (c .before .before .before .before .before .before .before .before .before .step-at .ensures) (c .before .before .before .before .before .line .ensures) (c .before .before .put .ensures)
+    traced-is (c .before .before .before .before .before .before .before .before .before .step-at .ensures) (c .before .before .before .before .before .line .ensures) (c .before .before .put .ensures .put)
 
 pub trace-word-spec : {M : Type 1} → statement M
 trace-word-spec =

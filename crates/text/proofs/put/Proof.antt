@@ -3,9 +3,9 @@ use Prim.Native.Nat.{_-_}
 use native.Mathlib.Omega.{arith}
 use lib.ListN.{length}
 use denote.Ref.{now}
-use Rattle.tracing.proofs.Lines.{Copying, copying-start, copying-more, copying-done}
-use Rattle.tracing.proofs.put.Statement.{statement}
-use Rattle.tracing.proofs.put.Tie as tie
+use Rattle.text.proofs.Fill.{Copying, copying-start, copying-more, copying-added}
+use Rattle.text.proofs.put.Statement.{statement}
+use Rattle.text.proofs.put.Tie as tie
 
 abbrev Inv-loop : tie.InvT-loop
 Inv-loop line text₀ at k₀ text k = Copying line text₀ at text k
@@ -25,11 +25,14 @@ slice-write-text c = omega (arith, c .before .before .before .pre, c .before .be
 loop-again : tie.Need-loop-again Inv-loop μ-loop
 loop-again c = copying-more (c .before .before .loop .inv) (c .before .loop-test .taken) (c .before .before .before .pre)
 
+add-result : tie.Need-add-result Inv-loop μ-loop
+add-result c = omega (arith, c .before .before .pre, c .before .loop .inv .upto)
+
 same-length : tie.Need-same-length Inv-loop μ-loop
 same-length c = c .before .loop .inv .size
 
 returns : tie.Need-returns Inv-loop μ-loop
-returns c = copying-done (c .before .loop .inv) (c .loop-test .left)
+returns c = copying-added (c .before .loop .inv) (c .loop-test .left)
 
 pub put-spec : {M : Type 1} → statement M
 put-spec =
@@ -44,5 +47,6 @@ put-spec =
     (λ c. omega arith)
     (λ c. omega arith)
     loop-again
+    add-result
     same-length
     returns)

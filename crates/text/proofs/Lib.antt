@@ -1,0 +1,3 @@
+-- These proofs assume nothing.
+pub mod Fill
+pub mod Same
