@@ -59,8 +59,8 @@ pub fn names_from(n: u32, w: Word) -> bool
     (n <= w.a) | (n <= w.b) | (n <= w.y)
 }
 
-// Whether a field is larger than its bits hold.
-fn too_large(w: Word) -> bool
+// Whether a field is larger than its bits hold. Public for the reader of listings.
+pub fn too_large(w: Word) -> bool
     ensures { λ r. ⌜ r ≡ tooLarge w ⌝ }
 {
     chip::out_of_range(
@@ -95,6 +95,28 @@ fn packed_number(w: Word) -> u64
         + w.borrow as u64 * 0x20
 }
 
+// The six bytes of a number.
+fn six(v: u64) -> [u8; 6]
+    ensures { λ r. ⌜ r ≡ bytes6 v ⌝ }
+{
+    [
+        ((v >> 40) % 256) as u8,
+        ((v >> 32) % 256) as u8,
+        ((v >> 24) % 256) as u8,
+        ((v >> 16) % 256) as u8,
+        ((v >> 8) % 256) as u8,
+        (v % 256) as u8,
+    ]
+}
+
+// The six bytes of a word. Public for the reader of listings, which has seen to the fields.
+pub fn bytes(w: Word) -> [u8; 6]
+    requires { ⌜ InRange w ⌝ }
+    ensures { λ r. ⌜ r ≡ bytes6 (packedNumber w) ⌝ }
+{
+    six(packed_number(w))
+}
+
 // Six bytes into the first six of `d`.
 fn put(d: &mut [u8], b0: u8, b1: u8, b2: u8, b3: u8, b4: u8, b5: u8)
     requires { ⌜ 6 ≤ length (now d) ⌝ }
@@ -113,15 +135,8 @@ fn put_number(v: u64, d: &mut [u8])
     requires { ⌜ 6 ≤ length (now d) ⌝ }
     ensures { λ _. ⌜ now (d .exit) ≡ bytes6 v ++ drop 6 (now (d .entry)) ⌝ }
 {
-    put(
-        d,
-        ((v >> 40) % 256) as u8,
-        ((v >> 32) % 256) as u8,
-        ((v >> 24) % 256) as u8,
-        ((v >> 16) % 256) as u8,
-        ((v >> 8) % 256) as u8,
-        (v % 256) as u8,
-    );
+    let b = six(v);
+    put(d, b[0], b[1], b[2], b[3], b[4], b[5]);
 }
 
 // ---- the registers that a word names, as a set

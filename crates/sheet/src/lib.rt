@@ -7,7 +7,7 @@ ghost use Prim.Native.Nat.{_+_, _*_, _≤_};
 ghost use lib.ListN.{length};
 ghost use Rattle.reasons.specs.Reasons.{firstOf, noneHold, rowsBy, checkNumbers};
 ghost use Rattle.packing.specs.Registers.{Narrow};
-ghost use Rattle.sheet.specs.Sheet.{number4, countOf, registersOf, wordsOf, declaredOf, partOf, numberAt, wordAt, executionsOf, sheetOf, badHeader, fewer, numberRows, wordRows, openingRows, headRows, startRows, checkBeside, checkOf, inputOf};
+ghost use Rattle.sheet.specs.Sheet.{number4, versionOf, countOf, registersOf, wordsOf, declaredOf, partOf, numberAt, wordAt, executionsOf, sheetOf, badHeader, fewer, numberRows, wordRows, openingRows, headRows, startRows, checkBeside, checkOf, inputOf};
 ghost use Rattle.sheet.specs.Heading.{headingRows, headedBy, headingOf};
 
 // Which of two lent sheets a word comes from.
@@ -52,6 +52,14 @@ fn registers(h: u32) -> u32
     ensures { λ r. ⌜ r ≡ registersOf h ⌝ }
 {
     (h >> 9) % 128
+}
+
+// The version of a sheet. Public for the crates above, which have checked the sheet.
+pub fn version(s: &[u8]) -> u32
+    requires { ⌜ 4 ≤ length (now s) ⌝ }
+    ensures { λ r. ⌜ r ≡ versionOf (number4 (now (s .entry))) ⌝ }
+{
+    header(s) >> 28
 }
 
 // How many words a sheet has. Public for the crates above, which have checked the sheet.
