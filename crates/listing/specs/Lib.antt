@@ -1,0 +1,3 @@
+-- These definitions assume nothing.
+pub mod Lines
+pub mod Lister
