@@ -1,0 +1,3 @@
+-- These definitions assume nothing.
+pub mod Grammar
+pub mod Scan
