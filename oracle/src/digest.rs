@@ -1,7 +1,7 @@
 //! The digest lines, the vectors, and the trial of the planted faults.
 
 use crate::draw::{next, Draw, CASES, SYSTEMATIC};
-use crate::faults::{Fault, Faults, ALL};
+use crate::faults::{Fault, Faults, IN_WORDS};
 use crate::on_registers::Board;
 use crate::pages::MNEMONICS;
 use crate::word::{out_of_range, single, Answer, Inputs};
@@ -162,7 +162,7 @@ impl Right {
         let faults = Faults::none();
         Right {
             sums: sums_by_block(opcode, &faults).collect(),
-            asked: ALL.iter().map(|&(f, _)| faults.was_asked(f)).collect(),
+            asked: IN_WORDS.iter().map(|&(f, _)| faults.was_asked(f)).collect(),
         }
     }
 
@@ -184,14 +184,14 @@ impl Right {
 pub fn try_faults() -> bool {
     let right = for_each_opcode(Right::of_opcode);
     let mut unnoticed = 0;
-    for (i, &(fault, what)) in ALL.iter().enumerate() {
+    for (i, &(fault, what)) in IN_WORDS.iter().enumerate() {
         let changed = changed_lines(fault, &right, i);
         unnoticed += usize::from(changed.is_empty());
         report(what, &changed);
     }
     println!(
         "{} faults planted over {} cases an opcode, {} not noticed",
-        ALL.len(),
+        IN_WORDS.len(),
         CASES,
         unnoticed
     );

@@ -1,23 +1,29 @@
 //! Known faults that can be planted in the model, to show that the digests
-//! notice them. The model asks `has` at the place concerned.
+//! and the cases of listings notice them. The model asks `has` at the place
+//! concerned.
 
 use std::cell::Cell;
 
-/// Makes the list of faults and the table of what each one is.
+/// Makes the list of faults, and the tables of what each one is, in the order
+/// they are tried.
 macro_rules! faults {
-    ($($name:ident: $what:literal,)*) => {
+    ($($(#[$about:meta])* $table:ident { $($name:ident: $what:literal,)* })*) => {
         /// One known fault.
         #[derive(Clone, Copy, PartialEq, Debug)]
         pub enum Fault {
-            $($name,)*
+            $($($name,)*)*
         }
 
-        /// Every fault with what it is, in the order they are tried.
-        pub const ALL: &[(Fault, &str)] = &[$((Fault::$name, $what),)*];
+        $(
+            $(#[$about])*
+            pub const $table: &[(Fault, &str)] = &[$((Fault::$name, $what),)*];
+        )*
     };
 }
 
 faults! {
+/// Faults of single words and runs, which the digests notice.
+IN_WORDS {
     CarryInLost: "the carry taken in by ADDC, SUBC, SUBRC is lost",
     OverflowAt32Bits: "V taken at bit 31 whatever the byte code",
     ZeroOf32Bits: "Z of all 32 bits whatever the byte code",
@@ -81,6 +87,39 @@ faults! {
     AllowanceIgnored: "the allowance of a run ignored",
     RunOfNoneKeepsStatus: "a run of no words keeps bits 13 to 15 and 23",
     RefusedRunWorksOutStatus: "a refused run works out the status bits",
+}
+
+/// Faults of the lister and the reader, which the cases of listings notice.
+IN_LISTINGS {
+    MacroLinkNotListed: "macro-link left out of the line",
+    AAndBListedExchanged: "A and B exchanged in the line",
+    ElevenColumns: "a mnemonic in eleven columns",
+    WidthZeroListedAs32: "width 0 listed as 32",
+    RegisterListedUnchecked: "a sheet listed without the check of its registers",
+    LinesFromOne: "the first line counted as 1",
+    EmptyLineSkipped: "an empty line skipped",
+    LastLineFeedWanted: "a last line without its line feed refused",
+    CapitalsWanted: "small letters refused",
+    CaseByBitFive: "characters compared but for bit 5, letters or not",
+    ReturnNoBlank: "a carriage return is no blank",
+    EverySpaceBlank: "form feeds and vertical tabs are blanks",
+    MnemonicBegun: "the beginning of a mnemonic read as the mnemonic",
+    TwoDigitsWanted: "a number of one digit refused",
+    ThreeDigitsTaken: "a number of three digits taken",
+    SwitchesInAnyOrder: "switches taken in any order, and twice",
+    PartsAfterSwitches: "what follows the switches not looked at",
+    VersionBeforeText: "first line: Version before Text",
+    InputsBeforeText: "a word line: Inputs before Text",
+    RegisterBeforeInputs: "a word line: Register before Inputs",
+    IdleYNotRead: "a word line: Y not checked where write is off",
+    RegistersTo63: "64 registers refused",
+    CountBeforeLines: "Count before the lines' reasons",
+    CountFrom4095: "4,095 word lines refused",
+    RoomBeforeCount: "Room before Count",
+    RoomOneMore: "Room where the output fits to the byte",
+    RefusedRoomWritten: "Room: what fits is written",
+    RestCleared: "the buffer cleared past what is written",
+}
 }
 
 /// At most one planted fault, and a record of which faults were asked about.

@@ -2,6 +2,7 @@
 
 mod arithmetic;
 mod bits;
+mod bundle;
 mod cases;
 mod cycle;
 mod decimal;
@@ -12,6 +13,8 @@ mod faults;
 mod field;
 mod handler;
 mod interrupt;
+mod listing;
+mod listing_cases;
 mod lists;
 mod logic;
 mod movement;
@@ -19,21 +22,27 @@ mod multiply;
 mod on_registers;
 mod pages;
 mod pairs;
+mod random_texts;
+mod reader;
 mod run;
 mod selftest;
 mod sheet;
 mod shift;
 mod status;
+mod text_cases;
 mod trace;
 mod word;
 
+use faults::Faults;
 use std::io::{self, Read, Write};
 use std::path::Path;
 use std::process::ExitCode;
 
 const USAGE: &str = "usage: oracle selftest | digest | vectors | faults | trace
        oracle trace-inputs DIR COUNT | longest | interrupts COUNT
-       oracle pairs | pairs-sheets";
+       oracle pairs | pairs-sheets
+       oracle list | assemble | listing-cases [FILE...] | listing-answers
+       oracle random-texts COUNT | case NUMBER";
 
 fn main() -> ExitCode {
     let arguments: Vec<String> = std::env::args().skip(1).collect();
@@ -42,13 +51,19 @@ fn main() -> ExitCode {
         ["selftest"] => Ok(selftest::run()),
         ["digest"] => print(&digest::digest_text()),
         ["vectors"] => print(&digest::vectors_text()),
-        ["faults"] => Ok(digest::try_faults()),
+        ["faults"] => Ok(try_faults()),
         ["trace"] => trace_input(),
         ["trace-inputs", folder, count] => write_inputs(folder, count),
         ["longest"] => write(&cases::longest_input()),
         ["interrupts", count] => print(&cases::interrupt_text(number(count))),
         ["pairs"] => print(&pairs::pairs_text()),
         ["pairs-sheets"] => write(&pairs::pairs_sheets()),
+        ["list"] => list(),
+        ["assemble"] => assemble(),
+        ["listing-cases", ref examples @ ..] => listing_cases(examples),
+        ["listing-answers"] => listing_answers(),
+        ["random-texts", count] => random_texts(number(count)),
+        ["case", which] => one_case(number(which)),
         _ => {
             eprintln!("{USAGE}");
             Ok(false)
@@ -73,10 +88,73 @@ fn write(bytes: &[u8]) -> io::Result<bool> {
     Ok(true)
 }
 
-fn trace_input() -> io::Result<bool> {
+/// Everything on standard input.
+fn input() -> io::Result<Vec<u8>> {
     let mut input = Vec::new();
     io::stdin().read_to_end(&mut input)?;
-    print(&trace::trace(&input))
+    Ok(input)
+}
+
+fn try_faults() -> bool {
+    let in_words = digest::try_faults();
+    let in_listings = bundle::try_faults();
+    in_words && in_listings
+}
+
+fn trace_input() -> io::Result<bool> {
+    print(&trace::trace(&input()?))
+}
+
+/// The text of a sheet; of a refused one reason and place.
+fn list() -> io::Result<bool> {
+    let mut text = vec![0; listing::LISTING_ROOM];
+    match listing::list(&input()?, &mut text, &Faults::none()) {
+        Ok(length) => write(&text[..length]),
+        Err(verdict) => {
+            println!("{:02} {:04X}", verdict.reason, verdict.place);
+            Ok(false)
+        }
+    }
+}
+
+/// The sheet of a text; of a refused one reason and line, on standard error.
+fn assemble() -> io::Result<bool> {
+    let mut sheet = vec![0; reader::SHEET_ROOM];
+    match reader::read(&input()?, &mut sheet, &Faults::none()) {
+        Ok(length) => write(&sheet[..length]),
+        Err(verdict) => {
+            eprintln!("{:02} {:04X}", verdict.reason, verdict.place);
+            Ok(false)
+        }
+    }
+}
+
+fn listing_cases(examples: &[&str]) -> io::Result<bool> {
+    let examples: io::Result<Vec<Vec<u8>>> = examples.iter().map(std::fs::read).collect();
+    write(&bundle::bundle_of(&listing_cases::gate_cases(&examples?)))
+}
+
+/// The cases of the bundle on standard input.
+fn input_cases() -> io::Result<Vec<bundle::Case>> {
+    let cases = bundle::cases_of(&input()?);
+    cases.ok_or_else(|| io::Error::other("the input is no bundle of cases"))
+}
+
+fn listing_answers() -> io::Result<bool> {
+    print(&bundle::answers(&input_cases()?))
+}
+
+fn random_texts(count: usize) -> io::Result<bool> {
+    write(&bundle::bundle_of(&random_texts::random_cases(count)))
+}
+
+/// One case of a bundle, counted from 1, as a bundle of its own.
+fn one_case(which: usize) -> io::Result<bool> {
+    let cases = input_cases()?;
+    let case = which.checked_sub(1).and_then(|i| cases.get(i));
+    case.map_or(Ok(false), |case| {
+        write(&bundle::bundle_of(std::slice::from_ref(case)))
+    })
 }
 
 fn write_inputs(folder: &str, count: &str) -> io::Result<bool> {

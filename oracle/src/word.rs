@@ -6,7 +6,8 @@ use crate::faults::{Fault, Faults};
 use crate::pages::{has_page, perform};
 use crate::status::Status;
 
-/// The numbers of document 01's table of reasons.
+/// The numbers of document 01's table of reasons, and those that document 02's
+/// second request adds.
 pub mod reason {
     pub const DONE: u8 = 0;
     pub const OPCODE: u8 = 1;
@@ -23,6 +24,8 @@ pub mod reason {
     pub const OVERLAP: u8 = 12;
     pub const SCHEDULE: u8 = 13;
     pub const ROOM: u8 = 14;
+    pub const TEXT: u8 = 15;
+    pub const COUNT: u8 = 16;
 }
 
 /// What goes into a single word.

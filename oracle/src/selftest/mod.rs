@@ -5,6 +5,7 @@ mod bench;
 mod decimal;
 mod draws;
 mod examples;
+mod listing;
 mod manual;
 mod runs;
 mod sequences;
@@ -40,7 +41,7 @@ impl Group {
 type Test = (&'static str, fn(&mut Group));
 
 /// Every group, in order.
-const GROUPS: [Test; 30] = [
+const GROUPS: [Test; 38] = [
     ("document 01, examples a to m", examples::lettered),
     ("document 01, the trace example", examples::trace_example),
     ("manual, field pages", manual::field_pages),
@@ -98,6 +99,23 @@ const GROUPS: [Test; 30] = [
     ("interrupts leave main undisturbed", runs::interrupts),
     ("the draw's boundary patterns", draws::patterns),
     ("the draw's runs end in every way", draws::reasons),
+    ("listings by hand", listing::by_hand),
+    ("listings, the gate's cases by hand", listing::gate),
+    (
+        "listings, every mnemonic and its neighbours",
+        listing::mnemonics,
+    ),
+    ("listings, every number", listing::numbers),
+    ("listings, every byte in a text", listing::bytes),
+    (
+        "listing, then reading, drawn sheets",
+        listing::sheets_and_back,
+    ),
+    (
+        "reading, then listing, drawn texts",
+        listing::texts_and_back,
+    ),
+    ("drawn listings end in every way", listing::reasons),
 ];
 
 /// Runs every group; true where nothing missed.
