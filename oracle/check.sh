@@ -35,4 +35,6 @@ same pairs ../crates/pairs/stdout
 echo "interrupts: same as ../crates/interrupts/stdin"
 ./traces.sh --same
 echo "traces: same as ../crates/traces/stdin and stdout"
+./listings.sh --same
+echo "listings: same as ../crates/listings/stdin and stdout"
 echo "== all good"
