@@ -3,12 +3,11 @@ use mathlib.Core.Path.{_≡_, refl, ap, _∙_}
 use mathlib.Core.List.{List, [], _∷_, map, _++_}
 use mathlib.Core.Bool.{Bool, true, false, _&&_, and-eq-true-iff}
 use Prim.Native.Nat.{ℕ, zero, suc, _+_, _-_, _≤_, _<_}
-use Prim.Native.String.{String}
 use native.Mathlib.Numerals.{add-one}
 use native.Mathlib.Omega.{arith}
-use lib.ListN.{length, getD, take, drop, replicate, drop-of-length-le}
+use lib.ListN.{length, take, drop, replicate, drop-of-length-le}
 use lib.Seq.{drop-cons, take-append-seam}
-use Rattle.text.specs.Ascii.{ascii, space, same}
+use Rattle.text.specs.Ascii.{space, same}
 use Rattle.mnemonics.specs.Mnemonics.{mnemonics, mnemonicOf, inColumn}
 use Rattle.mnemonics.proofs.Mnemonics.{at-mnemonic}
 use Rattle.grammar.specs.declared.Found.the-variants.{Number, Nothing}

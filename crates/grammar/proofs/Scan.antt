@@ -45,7 +45,7 @@ part-from c (e ∷ es) = go (blank e) refl (part-from (capital e) es)
     go false h rest = rw (blank-capital e, h) (onto-filled c (capital e) (pieces blank (map capital es)) ∙ ap (onto c) rest)
 
 -- a part before others, if there is one
-abbrev before : List ℕ → List (List ℕ) → List (List ℕ)
+abbrev pub before : List ℕ → List (List ℕ) → List (List ℕ)
 before [] ps = []
 before (c ∷ p) ps = (c ∷ p) ∷ ps
 

@@ -6,7 +6,6 @@ use Prim.Native.String.{String}
 use lib.ListN.{length, drop}
 use lib.Dec.{eqb, leb}
 use Rattle.text.specs.Ascii.{ascii, newline, same}
-use Rattle.chip.specs.declared.Word.{Word}
 use Rattle.mnemonics.specs.Mnemonics.{mnemonics}
 use Rattle.grammar.specs.declared.Found.{Found}
 use Rattle.grammar.specs.declared.Found.the-variants.{Number, Nothing}

@@ -1,7 +1,7 @@
 -- The ways in which listing ends, and what a caller can rely on.
 use mathlib.Core.Path.{_≡_, refl, sym, ap, ap₂, _∙_}
 use mathlib.Core.List.{List, [], _∷_, _++_}
-use Prim.Native.Nat.{ℕ, zero, suc, _+_, _*_, _≤_, _<_}
+use Prim.Native.Nat.{ℕ, _+_, _*_, _≤_, _<_}
 use native.Mathlib.Omega.{arith}
 use borrow.Author.Tests.{lt-ltb, le-ltb}
 use lib.ListN.{length, drop, length-append}
@@ -15,12 +15,12 @@ use Rattle.reasons.specs.Reasons.{Row, _gives_at_, firstOf, checkNumbers}
 use Rattle.reasons.specs.Output.{wrote, withheld, wroteBy}
 use Rattle.reasons.proofs.Rows.{first-good, first-bad}
 use Rattle.reasons.proofs.Numbers.{Tells, telling-first, telling-on}
-use Rattle.reasons.proofs.Wrote.{wrote-check, wrote-numbers, one-wrote}
+use Rattle.reasons.proofs.Wrote.{wrote-numbers, one-wrote}
 use Rattle.text.specs.Fill.{Written}
 use Rattle.chip.specs.declared.Word.{Word}
 use Rattle.packing.specs.Packing.{InRange}
 use Rattle.sheet.specs.declared.Given.the-variants.{Absent}
-use Rattle.sheet.specs.Sheet.{wordsOf, declaredOf, wordAt, wordsFrom, allWords, sheetRows, checkBeside, checkOf, Ready}
+use Rattle.sheet.specs.Sheet.{wordsOf, declaredOf, allWords, sheetRows, checkBeside, checkOf, Ready}
 use Rattle.sheet.proofs.Table.{ready-alone}
 use Rattle.sheet.proofs.Positions.{All, words-length, all-words}
 use Rattle.sheet.proofs.Positions.All.{none, more}

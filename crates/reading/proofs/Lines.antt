@@ -4,39 +4,16 @@ use mathlib.Core.List.{List, [], _∷_}
 use mathlib.Core.Bool.{Bool, true, false, not}
 use Prim.Native.Nat.{ℕ, suc, _+_, _-_, _≤_, _<_, min}
 use native.Mathlib.Omega.{arith}
-use native.Mathlib.Numerals.{add-one}
 use native.Mathlib.Nat.{min-eq-left, min-eq-right}
 use native.Mathlib.Decide.{decLe}
 use lib.ListN.{length, getD, take, drop, length-drop, drop-of-length-le}
-use lib.Seq.{drop-cons, drop-drop, drop-length, take-nil, drop-nil}
+use lib.Seq.{drop-drop, drop-length, take-nil, drop-nil}
 use lib.Dec.{eqb}
 use Rattle.text.specs.Ascii.{newline}
 use Rattle.grammar.specs.Grammar.{choose, onto, pieces, linesOf}
 use Rattle.grammar.specs.Scan.{leading}
+use Rattle.grammar.proofs.Passing.{place-within}
 use Rattle.reading.specs.Reader.{endOf}
-
--- ---- bytes that pass a test, counted from a place on
-module _ (f : ℕ → Bool) (l : List ℕ) (k : ℕ) where
-  -- where the byte at the place passes, the count ends at the same place as from the next one on
-  pub leading-more : k < length l → f (getD l k 0) ≡ true → k + leading f (drop k l) ≡ k + 1 + leading f (drop (k + 1) l)
-  leading-more h e = rw (add-one, drop-cons l k 0, e) (omega arith)
-
-  -- where it does not, it ends there
-  pub leading-stop : k < length l → f (getD l k 0) ≡ false → k ≡ k + leading f (drop k l)
-  leading-stop h e = rw (drop-cons l k 0, e) (omega arith)
-
-  -- and past the last byte
-  pub leading-done : length l ≤ k → k ≡ k + leading f (drop k l)
-  leading-done h = rw (drop-of-length-le l {i = k}) (omega arith)
-
--- no more pass than there are
-leading-le : (f : ℕ → Bool) (l : List ℕ) → leading f l ≤ length l
-leading-le f [] = omega arith
-leading-le f (c ∷ cs) = go (f c) (leading-le f cs)
-  where
-    go : (b : Bool) → leading f cs ≤ length cs → choose b (suc (leading f cs)) 0 ≤ suc (length cs)
-    go true h = omega arith
-    go false h = omega arith
 
 -- ---- lines
 -- no line feed
@@ -87,7 +64,7 @@ pub record Ends (t : List ℕ) (i end : ℕ) : Type 0 where
   pub within : end ≤ length t
 
 pub line-ends : (t : List ℕ) {i end : ℕ} → i ≤ length t → end ≡ endOf t i → Ends t i end
-line-ends t {i} h e = record { starts = omega arith; within = omega (arith, leading-le inLine (drop i t), length-drop i t) }
+line-ends t {i} h e = record { starts = omega arith; within = omega (arith, place-within inLine t i h) }
 
 -- one line further, from where it starts to where the next one does: the lines left are it and those left after it
 pub record Step (t : List ℕ) (i end next : ℕ) : Type 0 where

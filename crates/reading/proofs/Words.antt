@@ -1,27 +1,18 @@
 -- The fields of a line that was checked fit a word.
-use mathlib.Core.Path.{_≡_, refl, ap, sym, _∙_}
+use mathlib.Core.Path.{_≡_, refl}
 use mathlib.Core.List.{List, [], _∷_}
-use mathlib.Core.Bool.{Bool, true, false, not, _&&_, _||_, true≢false}
+use mathlib.Core.Bool.{true, false, true≢false}
 use Prim.Native.Nat.{ℕ, _+_}
-use Prim.Native.String.{String}
-use native.Mathlib.Omega.{arith}
-use borrow.Author.Tests.{not-true}
-use Rattle.text.specs.Ascii.{ascii, same}
 use Rattle.reasons.specs.Reasons.{Row, firstOf}
 use Rattle.reasons.specs.declared.Check.the-variants.{Good}
 use Rattle.reasons.proofs.Rows.{None, good-none, none-left, none-right}
 use Rattle.reasons.proofs.Rows.None.{more}
-use Rattle.chip.specs.declared.Word.{Word}
-use Rattle.chip.specs.Single.{lacksPage}
-use Rattle.mnemonics.specs.Mnemonics.{mnemonics}
 use Rattle.packing.specs.Packing.{InRange}
 use Rattle.packing.proofs.Numbers.{in-range}
-use Rattle.grammar.specs.declared.Found.{Found}
-use Rattle.grammar.specs.declared.Found.the-variants.{Number, Nothing}
 use Rattle.grammar.proofs.Pages.{word-page}
 use Rattle.grammar.specs.declared.Line.{Line}
 use Rattle.grammar.specs.declared.Line.the-variants.{Read, Outside}
-use Rattle.grammar.specs.Grammar.{partsOf, choose, labelled, placeOf, opcodeOf, found, taking, offered, closing, lineOf, wordIn}
+use Rattle.grammar.specs.Grammar.{wordIn}
 use Rattle.reading.specs.Reader.{lineRows, linesRows, wordBy, AllFit}
 
 -- ---- lines that were checked

@@ -3,17 +3,16 @@ use mathlib.Core.Path.{_≡_, refl, sym, ap, _∙_}
 use mathlib.Core.List.{List, [], _∷_, _++_, map, append-nil, append-assoc}
 use mathlib.Core.Bool.{Bool, true, false, not, _&&_, _||_, true≢false}
 use Prim.Native.Nat.{ℕ, zero, suc, _/_, _%_, _^_, _-_, _<_}
-use Prim.Native.String.{String}
 use native.Mathlib.Omega.{arith}
-use borrow.Author.Tests.{eqb-true, eq-eqb, ltb-true, not-true}
-use lib.ListN.{length, getD, drop, replicate}
+use borrow.Author.Tests.{eqb-true, eq-eqb, not-true}
+use lib.ListN.{length, drop, replicate}
 use lib.Seq.{drop-append-seam}
-use lib.Dec.{eqb, ltb}
+use lib.Dec.{eqb}
 use Rattle.text.specs.Ascii.{ascii, space, same}
 use Rattle.text.specs.Text.{digitOf, decimalOf}
 use Rattle.chip.specs.declared.Word.{Word}
 use Rattle.chip.specs.Single.{lacksPage}
-use Rattle.mnemonics.specs.Mnemonics.{mnemonics, mnemonicOf, inColumn}
+use Rattle.mnemonics.specs.Mnemonics.{mnemonicOf, inColumn}
 use Rattle.text.proofs.Same.{and-left, and-right, same-itself, same-true}
 use Rattle.mnemonics.proofs.Mnemonics.{below, at-each, at-page, at-mnemonic, noBytes, named-exactly}
 use Rattle.mnemonics.proofs.Columns.{mnemonic-short}

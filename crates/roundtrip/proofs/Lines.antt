@@ -1,26 +1,18 @@
 -- The lines of a listing: it comes apart into the lines that it was put together from.
-use mathlib.Core.Path.{_≡_, refl, sym, ap, _∙_, subst}
+use mathlib.Core.Path.{_≡_, refl, ap, _∙_}
 use mathlib.Core.List.{List, [], _∷_, _++_, map}
-use mathlib.Core.Bool.{Bool, true, false}
-use Prim.Native.Nat.{ℕ, suc, _+_, _-_}
-use Prim.Native.String.{String}
-use native.Mathlib.Omega.{arith}
-use lib.ListN.{length, getD, replicate}
+use mathlib.Core.Bool.{false}
+use Prim.Native.Nat.{ℕ, _+_, _-_}
+use lib.ListN.{length, replicate}
 use lib.Seq.{append-snoc}
 use lib.Dec.{eqb}
-use Rattle.text.specs.Ascii.{ascii, space, newline, same}
+use Rattle.text.specs.Ascii.{space, newline}
 use Rattle.chip.specs.declared.Word.{Word}
-use Rattle.chip.specs.Single.{lacksPage}
-use Rattle.mnemonics.specs.Mnemonics.{mnemonics, mnemonicOf}
-use Rattle.mnemonics.proofs.Mnemonics.{noBytes, named-exactly}
+use Rattle.mnemonics.specs.Mnemonics.{mnemonicOf}
 use Rattle.packing.specs.Packing.{some}
 use Rattle.sheet.specs.Sheet.{number4, versionOf, declaredOf, allWords}
 use Rattle.listing.specs.Lines.{wordLine, firstLine, ended, wordLines, listingOf}
-use Rattle.grammar.specs.declared.Found.{Found}
-use Rattle.grammar.specs.declared.Found.the-variants.{Number, Nothing}
-use Rattle.grammar.specs.declared.Line.{Line}
-use Rattle.grammar.specs.declared.Line.the-variants.{Read, Outside}
-use Rattle.grammar.specs.Grammar.{choose, pieces, linesOf, partsOf, placeOf, opcodeOf, found, taking, offered, closing, lineOf, wordIn}
+use Rattle.grammar.specs.Grammar.{pieces, linesOf}
 use Rattle.roundtrip.proofs.Pieces.{none-append, piece, no-feed, spaced, spaced-feed, blanks-feed}
 use Rattle.roundtrip.proofs.Back.{mnemonic-gap, code, others, line-parts, line-text, head-parts, head-text}
 

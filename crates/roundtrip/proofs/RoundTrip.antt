@@ -1,9 +1,8 @@
 -- Listing and reading undo one another: the round trip between a sheet and its text (docs/LISTING.md).
-use mathlib.Core.Path.{_≡_, refl, sym, ap, ap₂, _∙_, subst₂}
+use mathlib.Core.Path.{_≡_, sym, ap, ap₂, _∙_, subst₂}
 use mathlib.Core.List.{List, [], _∷_, _++_, map}
 use Prim.Native.Nat.{ℕ, _+_, _*_, _≤_, _<_}
 use native.Mathlib.Omega.{arith}
-use borrow.Author.Tests.{le-ltb}
 use lib.ListN.{length, getD, take, drop}
 use lib.Seq.{take-append-seam}
 use lib.Dec.{ltb}
@@ -12,7 +11,7 @@ use Rattle.reasons.specs.Reasons.{_gives_at_, firstOf}
 use Rattle.reasons.specs.Output.{Wrote, wroteBy}
 use Rattle.reasons.specs.declared.Reason.the-variants.{Room}
 use Rattle.reasons.specs.declared.Check.{Check}
-use Rattle.reasons.specs.declared.Check.the-variants.{Good, Bad}
+use Rattle.reasons.specs.declared.Check.the-variants.{Good}
 use Rattle.reasons.proofs.Rows.{good-none, none-good, none-left}
 use Rattle.reasons.proofs.Wrote.{wrote-check}
 use Rattle.sheet.specs.declared.Given.the-variants.{Absent}

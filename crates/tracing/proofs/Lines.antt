@@ -1,11 +1,9 @@
 -- The text of the lines, one after another in a lent text.
-use mathlib.Core.Path.{_≡_, refl, ap, ap₂, sym, subst, _∙_}
+use mathlib.Core.Path.{_≡_, refl, ap, sym, subst, _∙_}
 use mathlib.Core.List.{List, [], _∷_, _++_, append-assoc, append-nil}
-use Prim.Native.Nat.{ℕ, suc, _+_, _*_, _/_, _%_, _≤_, _<_}
+use Prim.Native.Nat.{ℕ, _+_, _*_, _/_, _%_, _≤_, _<_}
 use native.Mathlib.Omega.{arith}
-use native.Mathlib.Numerals.{add-one}
-use lib.ListN.{length, getD, set, take, drop, length-append, length-set, drop-of-length-le}
-use lib.Seq.{take-at, drop-at, drop-drop, take-length, paste, paste-zero, paste-suc}
+use lib.ListN.{length, getD, drop, length-append, drop-of-length-le}
 use Rattle.machine.specs.declared.Shown.{Shown}
 use Rattle.machine.specs.declared.Machine.{Machine}
 use Rattle.machine.specs.Status.{Good}
