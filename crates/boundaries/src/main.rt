@@ -1,22 +1,22 @@
 // Interrupts a multiplication at every boundary in turn, and at all of them at once, with a handler that itself multiplies and loads Q and
 // every flag, and prints each outcome beside that of the undisturbed run. It reads the two sheets, packed, one after the other.
-// The multiplication, Q times register 0, on 2 registers, in the words of examples/pack.py:
+// The multiplication, Q times register 0, on 2 registers, as a listing (docs/LISTING.md) in short, where what is left out is 0 and xN is N lines:
 //
-//     UMULFIRST 4 A=0 B=1 Y=1 write
-//     UMULSTEP  4 x15 A=0 B=1 Y=1 write
-//     UMULLAST  4 A=0 B=1 Y=1 write
+//     UMULFIRST code=0 A=0 B=1 Y=1 write
+//     UMULSTEP  code=0 x15 A=0 B=1 Y=1 write
+//     UMULLAST  code=0 A=0 B=1 Y=1 write
 //
 // The handler, on 8 registers:
 //
-//     PASS-STAT 4 A=5 B=5 Y=6 write        # saves status and Q
-//     PASS-Q    4 A=5 B=5 Y=7 write
-//     LOADQ-A   4 A=2 B=5 Y=5
-//     LDSTAT-A  4 A=3 B=5 Y=5
-//     UMULFIRST 4 A=4 B=5 Y=5 write
-//     UMULSTEP  4 x15 A=4 B=5 Y=5 write
-//     UMULLAST  4 A=4 B=5 Y=5 write
-//     LOADQ-A   4 A=7 B=5 Y=5              # restores them
-//     LDSTAT-A  4 A=6 B=5 Y=5
+//     PASS-STAT code=0 A=5 B=5 Y=6 write        # saves status and Q
+//     PASS-Q    code=0 A=5 B=5 Y=7 write
+//     LOADQ-A   code=0 A=2 B=5 Y=5
+//     LDSTAT-A  code=0 A=3 B=5 Y=5
+//     UMULFIRST code=0 A=4 B=5 Y=5 write
+//     UMULSTEP  code=0 x15 A=4 B=5 Y=5 write
+//     UMULLAST  code=0 A=4 B=5 Y=5 write
+//     LOADQ-A   code=0 A=7 B=5 Y=5              # restores them
+//     LDSTAT-A  code=0 A=6 B=5 Y=5
 use lines::print_word;
 use machine::Machine;
 

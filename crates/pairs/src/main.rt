@@ -1,27 +1,27 @@
 // The signed multiplication and the signed division of all pairs of one-byte numbers, each run beside plain arithmetic, from two statuses; and the
 // division of every dividend of two bytes by every divisor of one, where the quotient fits one. It reads four sheets, packed, one after the other,
-// all on registers 0 to 4; in the words of examples/pack.py (M48 of docs/MANUAL.md says what each word is for). The multiplication, Q times register
-// 0, high half in register 1, low half in Q:
+// all on registers 0 to 4; as a listing (docs/LISTING.md) in short, where what is left out is 0 and xN is N lines (M48 of docs/MANUAL.md says
+// what each word is for). The multiplication, Q times register 0, high half in register 1, low half in Q:
 //
-//     SMULFIRST   1 A=0 B=1 Y=1 write
-//     SMULSTEP    1 x3 A=0 B=1 Y=1 write
+//     SMULFIRST   code=1 A=0 B=1 Y=1 write
+//     SMULSTEP    code=1 x3 A=0 B=1 Y=1 write
 //
 // The division, register 4 by register 0, remainder in register 1, quotient in register 2; register 3 holds 0. A dividend of two bytes, in register 1
 // and Q, starts at SDIVFIRST:
 //
-//     LOADQ-A     1 A=4
-//     SIGN        1 B=1 Y=1 write
-//     SDIVFIRST   1 A=0 B=1 Y=1 write
-//     SDIVSTEP    1 x7 A=0 B=1 Y=1 write
-//     SDIVLAST1   1 A=0 B=1 Y=1 write
-//     SDIVLAST2   1 A=3 B=1                # from here
-//     RSTBIT-STAT 4 position=18
-//     EXTBIT-STAT 4 position=15
-//     DN1-LF-B    1 B=1                    # to here in place of table 11-2's jump
-//     SDIVLAST2   1 A=0 B=1
-//     PASS-Q      1 B=2 Y=2 write
-//     QUOCORR     1 B=2 Y=2 write
-//     REMCORR     1 A=0 B=1 Y=1 write
+//     LOADQ-A     code=1 A=4
+//     SIGN        code=1 B=1 Y=1 write
+//     SDIVFIRST   code=1 A=0 B=1 Y=1 write
+//     SDIVSTEP    code=1 x7 A=0 B=1 Y=1 write
+//     SDIVLAST1   code=1 A=0 B=1 Y=1 write
+//     SDIVLAST2   code=1 A=3 B=1                # from here
+//     RSTBIT-STAT code=0 position=18
+//     EXTBIT-STAT code=0 position=15
+//     DN1-LF-B    code=1 B=1                    # to here in place of table 11-2's jump
+//     SDIVLAST2   code=1 A=0 B=1
+//     PASS-Q      code=1 B=2 Y=2 write
+//     QUOCORR     code=1 B=2 Y=2 write
+//     REMCORR     code=1 A=0 B=1 Y=1 write
 //
 // The third is the second without those four words: table 11-2 without its jump. The fourth is the third without its SDIVLAST2. Both miss some
 // pairs, and how many is what is asked of them. The stored output is the independent program's (oracle/README.md).
