@@ -14,10 +14,12 @@ use Rattle.sheet.specs.Sheet.{checkOf}
 use Rattle.sheet.specs.Heading.{headingOf}
 use Rattle.sheet.specs.declared.Given.the-variants.{Absent}
 use Rattle.handler.specs.Form.{handlerOf}
+use Rattle.listing.specs.Lister.{listOf}
+use Rattle.reading.specs.Reader.{readOf}
 use Rattle.run.specs.Run.{runOf}
 use Rattle.run.specs.Step.{oneWordOf}
 use Rattle.interrupt.specs.Interrupt.{interruptedOf}
-use Rattle.am29332.specs.Numbers.{Leaves, leaves, singleNumbers, packNumbers, unpackNumbers, headingNumbers, runNumbers, stepNumbers, interruptedNumbers}
+use Rattle.am29332.specs.Numbers.{Leaves, leaves, singleNumbers, packNumbers, unpackNumbers, headingNumbers, wroteNumbers, runNumbers, stepNumbers, interruptedNumbers}
 use Rattle.am29332.specs.Version.{libraryVersion}
 
 -- where nothing is lent to be changed
@@ -57,6 +59,12 @@ one-outcome {A} d a b l m e f = (ap (λ (x : Leaves A). x .answer) (e ∙ sym f)
 
 pub one-pack : (w : Word) (bytes : List ℕ) → OneOutcome (packNumbers (packOf w bytes))
 one-pack w bytes = one-outcome (packNumbers (packOf w bytes))
+
+pub one-list-sheet : (sheet text : List ℕ) → OneOutcome (wroteNumbers (listOf sheet text))
+one-list-sheet sheet text = one-outcome (wroteNumbers (listOf sheet text))
+
+pub one-read-listing : (text sheet : List ℕ) → OneOutcome (wroteNumbers (readOf text sheet))
+one-read-listing text sheet = one-outcome (wroteNumbers (readOf text sheet))
 
 pub one-run : (sheet file : List ℕ) (m : Machine) (start allowance : ℕ) → OneOutcome (runNumbers (runOf sheet file m start allowance))
 one-run sheet file m start allowance = one-outcome (runNumbers (runOf sheet file m start allowance))

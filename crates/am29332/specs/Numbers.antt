@@ -3,6 +3,7 @@ use mathlib.Core.List.{List}
 use Prim.Native.Nat.{ℕ}
 use Rattle.reasons.specs.Reasons.{outcomeOf, checkNumbers}
 use Rattle.reasons.specs.declared.Outcome.{Outcome}
+use Rattle.reasons.specs.Output.{Wrote as WroteBuffer}
 use Rattle.chip.specs.declared.SingleAnswer.{SingleAnswer}
 use Rattle.packing.specs.declared.Unpacked.{Unpacked as UnpackedWord}
 use Rattle.packing.specs.Packing.{Packed}
@@ -13,6 +14,7 @@ use Rattle.interrupt.specs.Interrupt.{Left}
 use Rattle.am29332.specs.declared.Answer.{Answer}
 use Rattle.am29332.specs.declared.Unpacked.{Unpacked}
 use Rattle.am29332.specs.declared.Heading.{Heading}
+use Rattle.am29332.specs.declared.Wrote.{Wrote}
 use Rattle.am29332.specs.declared.Ran.{Ran}
 use Rattle.am29332.specs.declared.Stepped.{Stepped}
 use Rattle.am29332.specs.declared.Interrupted.{Interrupted}
@@ -40,6 +42,10 @@ leaves a lent = record { answer = a; lent = lent }
 -- packing: the buffer
 abbrev pub packNumbers : Packed → Leaves Outcome
 packNumbers p = leaves (checkNumbers (p .check)) (p .bytes)
+
+-- listing and reading: how many bytes were written, and the buffer
+abbrev pub wroteNumbers : WroteBuffer → Leaves Wrote
+wroteNumbers w = leaves (record { outcome = checkNumbers (w .answer .check); bytes = w .answer .bytes }) (w .buffer)
 
 -- a run: Q and status, and the file of registers
 abbrev pub runNumbers : Ended → Leaves Ran

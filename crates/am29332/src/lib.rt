@@ -14,11 +14,13 @@ ghost use Rattle.sheet.specs.Sheet.{checkOf};
 ghost use Rattle.sheet.specs.Heading.{headingOf};
 ghost use Rattle.sheet.specs.declared.Given.the-variants.{Absent};
 ghost use Rattle.handler.specs.Form.{handlerOf};
+ghost use Rattle.listing.specs.Lister.{listOf};
+ghost use Rattle.reading.specs.Reader.{readOf};
 ghost use Rattle.run.specs.Run.{runOf, inParts};
 ghost use Rattle.run.specs.Step.{oneWordOf};
 ghost use Rattle.interrupt.specs.Interrupt.{interruptedOf};
 ghost use Rattle.interrupt.specs.Demand3.{NoTrace};
-ghost use Rattle.am29332.specs.Numbers.{singleNumbers, packNumbers, unpackNumbers, headingNumbers, runNumbers, stepNumbers, interruptedNumbers, leaves};
+ghost use Rattle.am29332.specs.Numbers.{singleNumbers, packNumbers, unpackNumbers, headingNumbers, wroteNumbers, runNumbers, stepNumbers, interruptedNumbers, leaves};
 ghost use Rattle.am29332.specs.Version.{libraryVersion};
 
 // What a single word answers. The parity has a bit for each byte of Y, the highest byte's in bit 3.
@@ -45,6 +47,13 @@ pub struct Heading {
     pub version: u32,
     pub words: u32,
     pub registers: u32,
+}
+
+// What the lister and the reader answer: how many bytes they wrote, 0 where nothing was written.
+#[repr(C)]
+pub struct Wrote {
+    pub outcome: Outcome,
+    pub bytes: u64,
 }
 
 // What a run answers: Q and status are those to go on from.
@@ -76,7 +85,7 @@ pub struct Interrupted {
 pub extern "C" fn am29332_library_version() -> u32
     ensures { λ r. ⌜ r ≡ libraryVersion ⌝ }
 {
-    0x01_00_00
+    0x01_01_00
 }
 
 // A fresh machine.
@@ -154,6 +163,32 @@ pub extern "C" fn am29332_check_handler(sheet: &[u8]) -> Outcome
     ensures { λ r. ⌜ r ≡ checkNumbers (handlerOf (now (sheet .entry))) ⌝ }
 {
     reasons::numbered_check(handler::check_handler(sheet))
+}
+
+// A sheet as text that people read, at the start of a lent buffer.
+#[no_mangle]
+pub extern "C" fn am29332_list_sheet(sheet: &[u8], text: &mut [u8]) -> Wrote
+    ensures { λ r. ⌜ leaves r (now (text .exit)) ≡ wroteNumbers (listOf (now (sheet .entry)) (now (text .entry))) ⌝ }
+{
+    let listed = listing::list(sheet, text);
+    let check = listed.check;
+    Wrote {
+        outcome: reasons::numbered_check(check),
+        bytes: listed.bytes as u64,
+    }
+}
+
+// Text that people wrote as a sheet, at the start of a lent buffer.
+#[no_mangle]
+pub extern "C" fn am29332_read_listing(text: &[u8], sheet: &mut [u8]) -> Wrote
+    ensures { λ r. ⌜ leaves r (now (sheet .exit)) ≡ wroteNumbers (readOf (now (text .entry)) (now (sheet .entry))) ⌝ }
+{
+    let read = reading::read(text, sheet);
+    let check = read.check;
+    Wrote {
+        outcome: reasons::numbered_check(check),
+        bytes: read.bytes as u64,
+    }
 }
 
 // A sheet from word `start` on, at most `allowance` words.
