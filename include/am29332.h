@@ -82,7 +82,7 @@ extern "C" {
  * answers for. Another major number: a caller must be changed. A higher minor
  * one: something was added. */
 #define AM29332_LIBRARY_VERSION_MAJOR 1
-#define AM29332_LIBRARY_VERSION_MINOR 0
+#define AM29332_LIBRARY_VERSION_MINOR 1
 #define AM29332_LIBRARY_VERSION_PATCH 0
 #define AM29332_LIBRARY_VERSION                                                \
     (AM29332_LIBRARY_VERSION_MAJOR * UINT32_C(65536) +                         \
@@ -98,15 +98,20 @@ extern "C" {
 #define AM29332_SHEET_BYTES(words)                                             \
     (AM29332_HEADER_BYTES + AM29332_WORD_BYTES * (size_t)(words))
 
+/* Bytes of buffers that always suffice: for a sheet, and for its listing. */
+#define AM29332_SHEET_MOST 24574
+#define AM29332_LISTING_MOST 425903
+
 /* Reasons. Each is given exactly when its condition holds and no earlier one
  * in the call's order does. The place that comes with it is in brackets. */
 enum am29332_reason {
     AM29332_REASON_DONE = 0,     /* not refused [words run; 0 where none
                                     could] */
     AM29332_REASON_OPCODE = 1,   /* opcode above 127 or with no page [word] */
-    AM29332_REASON_INPUTS = 2,   /* single word or packing: byte code above 3,
-                                    position above 63, width above 31, register
-                                    above 63, a switch above 1 [0] */
+    AM29332_REASON_INPUTS = 2,   /* single word, packing or a listing: byte code
+                                    above 3, position above 63, width above 31,
+                                    register above 63, a switch above 1 [0; in a
+                                    listing the line] */
     AM29332_REASON_SHORT = 3,    /* sheet under 4 bytes [0] */
     AM29332_REASON_VERSION = 4,  /* version is not 1 [0] */
     AM29332_REASON_HEADER = 5,   /* zero bits set, or register count 0 or above
@@ -115,7 +120,7 @@ enum am29332_reason {
     AM29332_REASON_FILE = 7,     /* fewer registers lent than declared [0] */
     AM29332_REASON_SPARE = 8,    /* a word's zero bits set [word] */
     AM29332_REASON_REGISTER = 9, /* a register not below the declared count
-                                    [word] */
+                                    [word; in a listing the line] */
     AM29332_REASON_START = 10,   /* start word above the count [0] */
     AM29332_REASON_FORM = 11,    /* handler breaks the form [first word at
                                     fault, 0 if under six words] */
@@ -124,11 +129,15 @@ enum am29332_reason {
     AM29332_REASON_SCHEDULE = 13, /* above 1,024 entries, one above the main
                                      sheet's count, or falling [first entry at
                                      fault] */
-    AM29332_REASON_ROOM = 14     /* fewer than 6 bytes to pack into or unpack
-                                    [0] */
+    AM29332_REASON_ROOM = 14,    /* fewer than 6 bytes to pack into or unpack;
+                                    a listing, or the sheet of one, longer than
+                                    the buffer [0] */
+    AM29332_REASON_TEXT = 15,    /* a line outside the listing's form [line] */
+    AM29332_REASON_COUNT = 16    /* a listing of more than 4,095 words [0] */
 };
 
-/* A reason's name in document 01; "unknown" for a number that has none. */
+/* A reason's name in documents 01 and 02; "unknown" for a number that has
+ * none. */
 static inline const char *am29332_reason_name(uint32_t reason)
 {
     switch (reason) {
@@ -147,6 +156,8 @@ static inline const char *am29332_reason_name(uint32_t reason)
     case AM29332_REASON_OVERLAP: return "Overlap";
     case AM29332_REASON_SCHEDULE: return "Schedule";
     case AM29332_REASON_ROOM: return "Room";
+    case AM29332_REASON_TEXT: return "Text";
+    case AM29332_REASON_COUNT: return "Count";
     default: return "unknown";
     }
 }
@@ -315,6 +326,13 @@ typedef struct am29332_heading {
     uint32_t registers;
 } am29332_heading;
 
+/* What listing and reading answer: how many bytes they wrote, 0 where they are
+ * refused. */
+typedef struct am29332_wrote {
+    am29332_outcome outcome;
+    uint64_t bytes;
+} am29332_wrote;
+
 /* What a run answers: the machine is the one to go on from. */
 typedef struct am29332_ran {
     am29332_outcome outcome;
@@ -360,6 +378,8 @@ AM29332_CHECK(sizeof(am29332_unpacked) == 64);
 AM29332_CHECK(offsetof(am29332_unpacked, word) == 16);
 AM29332_CHECK(sizeof(am29332_heading) == 32);
 AM29332_CHECK(offsetof(am29332_heading, version) == 16);
+AM29332_CHECK(sizeof(am29332_wrote) == 24);
+AM29332_CHECK(offsetof(am29332_wrote, bytes) == 16);
 AM29332_CHECK(sizeof(am29332_ran) == 24);
 AM29332_CHECK(offsetof(am29332_ran, machine) == 16);
 AM29332_CHECK(sizeof(am29332_stepped) == 32);
@@ -451,6 +471,41 @@ am29332_outcome am29332_check_sheet(const uint8_t *sheet, size_t length);
  * Refuses: as am29332_check_sheet does, then 11 FORM.
  */
 am29332_outcome am29332_check_handler(const uint8_t *sheet, size_t length);
+
+/*
+ * Lists a sheet of `length` bytes: writes it as text that people read, at the
+ * start of a buffer of `room` bytes. docs/LISTING.md says the text's form. Its
+ * first line is about the sheet and each line after it about a word, such as
+ *
+ *   SUB         code=3 position=00 width=00 A=00 B=01 Y=02 write borrow
+ *
+ * Promises: `bytes` is the listing's length, the first so many of the buffer
+ * are the listing, and the bytes past them stay. No 0 is put after it. A sheet
+ * has one listing; am29332_read_listing makes the same sheet of it, byte for
+ * byte. AM29332_LISTING_MOST bytes always suffice.
+ * Refuses, in this order: what am29332_check_sheet refuses, with its places;
+ * 14 ROOM, place 0. No byte is changed, and `bytes` is 0.
+ */
+am29332_wrote am29332_list_sheet(const uint8_t *sheet, size_t length,
+                                 uint8_t *text, size_t room);
+
+/*
+ * Reads a listing of `length` bytes, or a text that an editor wrote by the
+ * rules of docs/LISTING.md: writes the sheet that it stands for at the start of
+ * a buffer of `room` bytes.
+ *
+ * Promises: `bytes` is the sheet's length, AM29332_SHEET_BYTES of the lines
+ * after the first; the first so many of the buffer are the sheet, and the bytes
+ * past them stay. am29332_check_sheet does not refuse it. AM29332_SHEET_MOST
+ * bytes always suffice.
+ * Refuses the first fault, going through the lines in order; the place is the
+ * line, and the first line is 0. In the first line, in this order: 15 TEXT
+ * (also of an empty text), 4 VERSION, 5 HEADER; in each other line 15 TEXT, 2
+ * INPUTS, 9 REGISTER. Where every line is good: 16 COUNT, 14 ROOM, place 0. No
+ * byte is changed, and `bytes` is 0.
+ */
+am29332_wrote am29332_read_listing(const uint8_t *text, size_t length,
+                                   uint8_t *sheet, size_t room);
 
 /*
  * Runs a sheet on a file of `registers` registers, from word `start` on, at

@@ -2,10 +2,13 @@
 """Tells where include/am29332.h and the library part. Works from any directory: tools/header_check.py.
 
 Read on the library's side: crates/am29332/src/lib.rt, the structs of the crates that it names, the numbers of crates/reasons, the status
-weights of crates/machine, the glossary of crates/chip, the version in crates/am29332/specs; and the symbols of target/staticlib/libam29332.a,
-where that has been built. Each difference is a line, and the exit status is then 1. Signatures, sizes and offsets, worked out from the .rt files,
-are also handed to the C compiler (CC, or cc) with the header."""
+weights of crates/machine, the glossary of crates/chip, the longest listing of crates/listing, the version in crates/am29332/specs; and the symbols of
+target/staticlib/libam29332.a, where that has been built. Each difference is a line, and the exit status is then 1. Signatures, sizes and offsets,
+worked out from the .rt files, are also handed to the C compiler (CC, or cc) with the header.
+
+The lister's mnemonics, in the code and in the definitions of crates/mnemonics, are held to the glossary as well, place by place."""
 import glob
+import itertools
 import os
 import re
 import shutil
@@ -113,12 +116,12 @@ def layout(structs, name):
 
 
 def glossary():
-    """The mnemonics by opcode number."""
+    """The mnemonics in the order of their opcode numbers, empty where there is no page."""
     entries = read("crates/chip/specs/Glossary.antt").split("glossary =\n")[1].split("[]")[0]
     pages = re.findall(r"no-page|page (\S+)", entries)
     if len(pages) != 128:
         tell(f"the glossary has {len(pages)} entries, not 128")
-    return {mnemonic: number for number, mnemonic in enumerate(pages) if mnemonic}
+    return pages
 
 
 # ---- the header's side
@@ -204,7 +207,7 @@ def check_reasons(text):
 
 
 def check_numbers(text):
-    opcodes = {name.replace("-", "_"): number for name, number in glossary().items()}
+    opcodes = {name.replace("-", "_"): number for number, name in enumerate(glossary()) if name}
     compare("opcode", opcodes, enumerators(text, "am29332_opcode", "AM29332_OP_"))
     weights = re.findall(r"pub const (\w+): u32 = (\w+);", code("crates/machine/src/lib.rt"))
     header = macros(text, "AM29332_STATUS_")
@@ -232,9 +235,24 @@ def check_limits(text):
         "MAX_ENTRIES": number_in(schedule, r"leb (\d+) j gives Schedule"),
         "HEADER_BYTES": number_in(sheet, r"partOf s k = take \d+ \(drop \((\d+) \+"),
         "WORD_BYTES": number_in(sheet, r"partOf s k = take (\d+)"),
+        "LISTING_MOST": number_in("crates/listing/src/lib.rt", r"pub const MOST: usize = (\d+);"),
     }
+    library["SHEET_MOST"] = library["HEADER_BYTES"] + library["WORD_BYTES"] * library["MAX_WORDS"]
     header = macros(text, "AM29332_").items()
-    compare("limit", library, {name: value for name, value in header if re.fullmatch(r"MAX_\w+|\w+_BYTES", name)})
+    compare("limit", library, {name: value for name, value in header if re.fullmatch(r"MAX_\w+|\w+_BYTES|\w+_MOST", name)})
+
+
+def check_mnemonics():
+    """The mnemonics of the listing against the glossary's names. The code has them in columns of one width."""
+    source, definitions = "crates/mnemonics/src/lib.rt", "crates/mnemonics/specs/Mnemonics.antt"
+    width = number_in(source, r"pub const COLUMN: usize = (\d+);")
+    columns = re.findall(r'\*b"([^"]*)"', code(source).split("const MNEMONICS")[1].split("\n];")[0])
+    named = re.findall(r'"([^"]*)"', read(definitions).split("mnemonics =\n")[1].split("[]")[0])
+    names = glossary()
+    for path, found, wanted in ((source, columns, [name.ljust(width) for name in names]), (definitions, named, names)):
+        for number, (there, here) in enumerate(itertools.zip_longest(found, wanted)):
+            if there != here:
+                tell(f"mnemonic {number:02X}: {there!r} in {path}, {here!r} by the glossary")
 
 
 def check_symbols(declared):
@@ -290,6 +308,7 @@ def main():
     check_functions(functions, declared)
     reasons, opcodes = check_reasons(text), check_numbers(text)
     check_limits(text)
+    check_mnemonics()
     symbols = check_symbols(declared)
     compiled = "not compiled" if told else check_compiled(structs, functions)
     if told:
