@@ -2,10 +2,11 @@
  * Times the engines on the benchmark's sheets: nanoseconds a word, the best of
  * several repeats, and each other engine's ratio to the first. See README.md.
  *
- *   harness [--each [all]] [REPEATS]     default 25
+ *   harness [--each [all] | --listing] [REPEATS]     default 25
  *
  * --each times the operations one by one instead, and prints the 20 where the
- * ratio is worst, or all.
+ * ratio is worst, or all. --listing times the listing of a sheet and its
+ * reading.
  */
 #define _POSIX_C_SOURCE 199309L
 #include "model.h"
@@ -31,10 +32,16 @@ typedef uint32_t interrupted_function(
     uint32_t *file, size_t registers, uint32_t *q, uint32_t *status,
     uint64_t *place);
 
+/* From a sheet to its listing or back: the reason, and by `bytes` how many
+ * bytes were written. */
+typedef uint32_t text_function(const uint8_t *from, size_t length, uint8_t *to,
+                               size_t room, size_t *bytes);
+
 struct engine {
     const char *name;
     run_function *run;
     interrupted_function *run_interrupted;
+    text_function *list, *read;
 };
 
 static uint32_t c_run(const uint8_t *sheet, size_t length, uint32_t *file,
@@ -66,14 +73,27 @@ static uint32_t c_run_interrupted(
     return v.reason;
 }
 
+static uint32_t c_list(const uint8_t *sheet, size_t length, uint8_t *text,
+                       size_t room, size_t *bytes)
+{
+    return model_list(sheet, length, text, room, bytes).reason;
+}
+
+static uint32_t c_read(const uint8_t *text, size_t length, uint8_t *sheet,
+                       size_t room, size_t *bytes)
+{
+    return model_read(text, length, sheet, room, bytes).reason;
+}
+
 /*
- * The proved library: proved.h has two functions like the two above over its C
- * interface. run.sh links the archive; or, with BENCH_NATIVE, the same two and
+ * The proved library: proved.h has functions like those above over its C
+ * interface. run.sh links the archive; or, with BENCH_NATIVE, the same ones and
  * the library as native.sh compiles them.
  */
 #ifdef BENCH_NATIVE
 run_function proved_run;
 interrupted_function proved_run_interrupted;
+text_function proved_list, proved_read;
 #else
 #define PROVED_LINKAGE static
 #include "proved.h"
@@ -81,8 +101,8 @@ interrupted_function proved_run_interrupted;
 
 /* The first is what the others are measured against. */
 static const struct engine engines[] = {
-    {"C model", c_run, c_run_interrupted},
-    {"proved", proved_run, proved_run_interrupted},
+    {"C model", c_run, c_run_interrupted, c_list, c_read},
+    {"proved", proved_run, proved_run_interrupted, proved_list, proved_read},
 };
 
 enum { ENGINES = sizeof engines / sizeof *engines };
@@ -176,9 +196,10 @@ static void time_case(const struct bench_case *c, int repeats,
 
 /* ---- Printing ----------------------------------------------------------- */
 
-static void print_head(const char *rows, int repeats, const char *which)
+static void print_head(const char *unit, const char *rows, int repeats,
+                       const char *which)
 {
-    printf("nanoseconds a word, best of %d%s\n%-11s", repeats, which, rows);
+    printf("%s, best of %d%s\n%-11s", unit, repeats, which, rows);
     for (int e = 0; e < ENGINES; e++)
         printf(" %10s", engines[e].name);
     for (int e = 1; e < ENGINES; e++)
@@ -206,7 +227,7 @@ static void set_ratios(const double times[ENGINES], double ratios[ENGINES])
 static void print_table(int repeats)
 {
     static struct bench_case c;
-    print_head("sheet", repeats, "");
+    print_head("nanoseconds a word", "sheet", repeats, "");
     for (int i = 0; i < BENCH_CASES; i++) {
         double times[ENGINES], ratios[ENGINES];
         bench_make(&c, i);
@@ -267,7 +288,8 @@ static void print_mean(const struct operation *all, int count)
 static void print_operations(int repeats, int rows)
 {
     static struct operation all[BENCH_OPCODES];
-    print_head("operation", repeats, ", the worst ratio first");
+    print_head("nanoseconds a word", "operation", repeats,
+               ", the worst ratio first");
     int count = time_operations(all, repeats);
     qsort(all, (size_t)count, sizeof *all, worse_first);
     for (int i = 0; i < count && i < rows; i++) {
@@ -278,22 +300,93 @@ static void print_operations(int repeats, int rows)
     print_mean(all, count);
 }
 
+/* ---- Listings ----------------------------------------------------------- */
+
+enum { MOST_TEXT = 425903 };
+
+/* A sheet or its listing. */
+struct paper {
+    uint8_t bytes[MOST_TEXT];
+    size_t length;
+};
+
+/* Milliseconds of one call, from a paper to another. */
+static double time_text(text_function *function, const struct paper *from,
+                        struct paper *to)
+{
+    double start = now();
+    uint32_t reason = function(from->bytes, from->length, to->bytes,
+                               sizeof to->bytes, &to->length);
+    double time = (now() - start) / 1e6;
+    if (reason != MODEL_DONE) {
+        fprintf(stderr, "a listing is refused: reason %" PRIu32 "\n", reason);
+        exit(1);
+    }
+    return time;
+}
+
+/* Both engines must make the same listing, and the sheet of it again. */
+static void expect_same(const struct paper *x, const struct paper *y)
+{
+    if (x->length == y->length && memcmp(x->bytes, y->bytes, x->length) == 0)
+        return;
+    fprintf(stderr, "the listings differ, or are not of the sheet\n");
+    exit(1);
+}
+
+/* The best of several calls, to list and to read; the engines take turns. */
+static void time_listing(const struct paper *sheet, int repeats,
+                         double list[ENGINES], double read[ENGINES])
+{
+    static struct paper texts[ENGINES], again;
+    for (int i = 0; i < repeats; i++)
+        for (int e = 0; e < ENGINES; e++) {
+            double time = time_text(engines[e].list, sheet, &texts[e]);
+            if (i == 0 || time < list[e])
+                list[e] = time;
+            time = time_text(engines[e].read, &texts[e], &again);
+            if (i == 0 || time < read[e])
+                read[e] = time;
+            expect_same(&texts[0], &texts[e]);
+            expect_same(sheet, &again);
+        }
+}
+
+static void print_listing(int repeats)
+{
+    static struct bench_case c;
+    static struct paper sheet;
+    double list[ENGINES], read[ENGINES], ratios[ENGINES];
+    bench_make_listing(&c);
+    sheet.length = c.main.length;
+    memcpy(sheet.bytes, c.main.bytes, c.main.length);
+    time_listing(&sheet, repeats, list, read);
+    print_head("milliseconds a call", "listing", repeats, "");
+    set_ratios(list, ratios);
+    print_row("list", list, ratios, "4,095 words: the 124 operations in turn");
+    set_ratios(read, ratios);
+    print_row("read", read, ratios, "the listing of that sheet");
+}
+
 /* ---- What is asked for -------------------------------------------------- */
 
 enum { WORST = 20 };
 
 struct wish {
     int repeats;
-    int rows; /* operations to print one by one; 0: the table of sheets */
+    int rows;    /* operations to print one by one; 0: the table of sheets */
+    int listing; /* the listing and its reading instead */
 };
 
 /* False where the words of the command make no sense. */
 static int read_wish(char **words, struct wish *wish)
 {
-    *wish = (struct wish){25, 0};
+    *wish = (struct wish){.repeats = 25};
     for (; *words != NULL; words++)
         if (strcmp(*words, "--each") == 0)
             wish->rows = WORST;
+        else if (strcmp(*words, "--listing") == 0)
+            wish->listing = 1;
         else if (strcmp(*words, "all") == 0 && wish->rows != 0)
             wish->rows = BENCH_OPCODES;
         else if ((wish->repeats = atoi(*words)) < 1)
@@ -305,10 +398,13 @@ int main(int count, char **words)
 {
     struct wish wish;
     if (count < 1 || !read_wish(words + 1, &wish)) {
-        fprintf(stderr, "usage: harness [--each [all]] [REPEATS]\n");
+        fprintf(stderr,
+                "usage: harness [--each [all] | --listing] [REPEATS]\n");
         return 2;
     }
-    if (wish.rows == 0)
+    if (wish.listing)
+        print_listing(wish.repeats);
+    else if (wish.rows == 0)
         print_table(wish.repeats);
     else
         print_operations(wish.repeats, wish.rows);

@@ -17,7 +17,7 @@
 #include <stddef.h>
 #include <stdint.h>
 
-/* Document 01, "Reasons given". */
+/* Document 01, "Reasons given"; 15 and 16 are document 02's. */
 enum model_reason {
     MODEL_DONE = 0,
     MODEL_OPCODE = 1,
@@ -33,7 +33,9 @@ enum model_reason {
     MODEL_FORM = 11,
     MODEL_OVERLAP = 12,
     MODEL_SCHEDULE = 13,
-    MODEL_ROOM = 14
+    MODEL_ROOM = 14,
+    MODEL_TEXT = 15,
+    MODEL_COUNT = 16
 };
 
 /* Which sheet of an interrupted run a refusal's fault is in. */
@@ -45,7 +47,8 @@ enum {
     MODEL_WORD_BYTES = 6,
     MODEL_MOST_WORDS = 4095,
     MODEL_MOST_REGISTERS = 64,
-    MODEL_MOST_ENTRIES = 1024
+    MODEL_MOST_ENTRIES = 1024,
+    MODEL_OPCODES = 128
 };
 
 /* A reason and its place: the words run where it is MODEL_DONE and a sheet
@@ -136,6 +139,21 @@ struct model_verdict model_run_interrupted(
  * the declared size, and gives its Y: the trace program's step. */
 uint32_t model_step(const uint8_t *sheet, uint64_t index, uint32_t *file,
                     struct model_machine *machine);
+
+/* The manual's mnemonics by opcode; empty where it has no page. */
+extern const char *const model_mnemonics[MODEL_OPCODES];
+
+/* Lists a sheet: its listing (docs/LISTING.md) at the start of `room` bytes,
+ * and in `bytes` how many it has, 0 where it is refused. Refuses 3 to 6, 8, 1,
+ * 9 as model_check does, then 14. */
+struct model_verdict model_list(const uint8_t *sheet, size_t length,
+                                uint8_t *text, size_t room, size_t *bytes);
+
+/* Reads a listing: its sheet at the start of `room` bytes, and in `bytes` how
+ * many it has, 0 where it is refused. Refuses, with the line as the place, 15,
+ * 4, 5, 2, 9; then 16, 14. */
+struct model_verdict model_read(const uint8_t *text, size_t length,
+                                uint8_t *sheet, size_t room, size_t *bytes);
 
 /* The opcodes, chapter 2. 1E, 1F, 4C and 4D have no page. */
 enum model_opcode {

@@ -3,7 +3,7 @@
  * compiles it by the x86-64 conventions to code for this machine.
  *
  * The library hands structs over as x86-64 does, whatever machine its module is
- * compiled for, so only a caller that does the same can call it. These two
+ * compiled for, so only a caller that does the same can call it. These
  * functions do, and can themselves be called from anywhere: numbers and
  * pointers are handed over by this machine's conventions. The one struct that
  * x86-64 hands over on the stack, the machine of an interrupted run, is by

@@ -1,6 +1,6 @@
 /*
  * The proved library as an engine of the harness, over its C interface. Who
- * includes it says by PROVED_LINKAGE how the two functions are linked:
+ * includes it says by PROVED_LINKAGE how the functions are linked:
  * harness.c takes them in as static ones, native-shim.c gives them out.
  */
 #ifndef BENCH_PROVED_H
@@ -37,6 +37,22 @@ PROVED_LINKAGE uint32_t proved_run_interrupted(
     *status = served.machine.status;
     *place = served.outcome.place;
     return served.outcome.reason;
+}
+
+PROVED_LINKAGE uint32_t proved_list(const uint8_t *sheet, size_t length,
+                                    uint8_t *text, size_t room, size_t *bytes)
+{
+    am29332_wrote wrote = am29332_list_sheet(sheet, length, text, room);
+    *bytes = wrote.bytes;
+    return wrote.outcome.reason;
+}
+
+PROVED_LINKAGE uint32_t proved_read(const uint8_t *text, size_t length,
+                                    uint8_t *sheet, size_t room, size_t *bytes)
+{
+    am29332_wrote wrote = am29332_read_listing(text, length, sheet, room);
+    *bytes = wrote.bytes;
+    return wrote.outcome.reason;
 }
 
 #endif

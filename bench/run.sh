@@ -1,7 +1,7 @@
 #!/bin/sh
 # Builds the benchmark at -O3 and runs it:
 #
-#   bench/run.sh [--native] [--each [all]] [REPEATS]
+#   bench/run.sh [--native] [--each [all] | --listing] [REPEATS]
 #
 # Works from any directory. CC may name the compiler on an x86-64 machine.
 #
@@ -13,7 +13,8 @@
 # (--each is made at one).
 #
 # With --native a machine of another kind compiles both sides for itself, by the
-# kit's compiler too: see native.sh. --each times the operations one by one.
+# kit's compiler too: see native.sh. --each times the operations one by one,
+# --listing the listing of a sheet and its reading.
 set -eu
 here=$(cd -- "$(dirname -- "$0")" && pwd)
 archive=$here/../target/staticlib/libam29332.a
@@ -24,8 +25,8 @@ for word in "$@"; do
     shift
     case $word in
     --native) native=yes ;;
-    --each | all | [1-9]*) set -- "$@" "$word" ;;
-    *) echo "usage: run.sh [--native] [--each [all]] [REPEATS]" >&2; exit 2 ;;
+    --each | all | --listing | [1-9]*) set -- "$@" "$word" ;;
+    *) echo "usage: run.sh [--native] [--each [all] | --listing] [REPEATS]" >&2; exit 2 ;;
     esac
 done
 
@@ -35,7 +36,7 @@ trap 'exit 1' HUP INT TERM
 
 # compile COMPILER WORDS..: the objects of the benchmark, in the work folder.
 compile() {
-    for part in harness model sheets; do
+    for part in harness model listing sheets; do
         "$@" -std=c11 -O3 -Wall -Wextra -Werror -fPIE \
             -c "$here/$part.c" -o "$work/$part.o"
         objects="$objects $work/$part.o"

@@ -163,44 +163,9 @@ static void put_scoring(struct bench_sheet *sheet, size_t words)
 
 /* ---- The operations ----------------------------------------------------- */
 
-/* The manual's mnemonics by opcode; empty where it has no page. */
-static const char *const mnemonics[BENCH_OPCODES] = {
-    "ZERO-EXTA", "ZERO-EXTB", "SIGN-EXTA", "SIGN-EXTB",
-    "PASS-STAT", "PASS-Q", "LOADQ-A", "LOADQ-B",
-    "NOT-A", "NOT-B", "NEG-A", "NEG-B",
-    "PRIOR-A", "PRIOR-B", "MERGEA-B", "MERGEB-A",
-    "DECR-A", "DECR-B", "INCR-A", "INCR-B",
-    "DECR2-A", "DECR2-B", "INCR2-A", "INCR2-B",
-    "DECR4-A", "DECR4-B", "INCR4-A", "INCR4-B",
-    "LDSTAT-A", "LDSTAT-B", "", "",
-    "DN1-0F-A", "DN1-0F-B", "DN1-0F-AQ", "DN1-0F-BQ",
-    "DN1-1F-A", "DN1-1F-B", "DN1-1F-AQ", "DN1-1F-BQ",
-    "DN1-LF-A", "DN1-LF-B", "DN1-LF-AQ", "DN1-LF-BQ",
-    "DN1-AR-A", "DN1-AR-B", "DN1-AR-AQ", "DN1-AR-BQ",
-    "UP1-0F-A", "UP1-0F-B", "UP1-0F-AQ", "UP1-0F-BQ",
-    "UP1-1F-A", "UP1-1F-B", "UP1-1F-AQ", "UP1-1F-BQ",
-    "UP1-LF-A", "UP1-LF-B", "UP1-LF-AQ", "UP1-LF-BQ",
-    "ZERO", "SIGN", "OR", "XOR",
-    "AND", "XNOR", "ADD", "ADDC",
-    "SUB", "SUBC", "SUBR", "SUBRC",
-    "SUM-CORR-A", "SUM-CORR-B", "DIFF-CORR-A", "DIFF-CORR-B",
-    "", "", "SDIVFIRST", "UDIVFIRST",
-    "SDIVSTEP", "SDIVLAST1", "MPDIVSTEP1", "MPSDIVSTEP3",
-    "UDIVSTEP", "UDIVLAST", "MPDIVSTEP2", "MPUDIVSTP3",
-    "REMCORR", "QUOCORR", "SDIVLAST2", "UMULFIRST",
-    "UMULSTEP", "UMULLAST", "SMULSTEP", "SMULFIRST",
-    "NB-SN-SHA", "NB-SN-SHB", "NB-0F-SHA", "NB-0F-SHB",
-    "NBROT-A", "NBROT-B", "EXTBIT-A", "EXTBIT-B",
-    "SETBIT-A", "SETBIT-B", "RSTBIT-A", "RSTBIT-B",
-    "SETBIT-STAT", "RSTBIT-STAT", "NOTF-AL-B", "PASSF-AL-B",
-    "NOTF-A", "NOTF-AL-A", "PASSF-A", "PASSF-AL-A",
-    "ORF-A", "ORF-AL-A", "XORF-A", "XORF-AL-A",
-    "ANDF-A", "ANDF-AL-A", "EXTF-A", "EXTF-B",
-    "EXTF-AB", "EXTF-BA", "EXTBIT-STAT", "PASS-MASK"};
-
 static int has_page(int opcode)
 {
-    return mnemonics[opcode][0] != '\0';
+    return model_mnemonics[opcode][0] != '\0';
 }
 
 /* A word with any fields, on registers 0 to 31. */
@@ -336,7 +301,16 @@ int bench_make_operation(struct bench_case *c, int opcode)
 {
     if (!has_page(opcode))
         return 0;
-    open_case(c, mnemonics[opcode], 124);
+    open_case(c, model_mnemonics[opcode], 124);
     put_operation(&c->main, opcode, 1000);
     return 1;
+}
+
+void bench_make_listing(struct bench_case *c)
+{
+    uint64_t x = 2;
+    open_case(c, "listing", 0);
+    for (int i = 0; words_in(&c->main) < MODEL_MOST_WORDS; i++)
+        if (has_page(i % BENCH_OPCODES))
+            put(&c->main, any_word(&x, i % BENCH_OPCODES));
 }

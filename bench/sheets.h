@@ -25,7 +25,7 @@ struct bench_case {
     struct model_machine machine;
 };
 
-enum { BENCH_CASES = 7, BENCH_OPCODES = 128 };
+enum { BENCH_CASES = 7, BENCH_OPCODES = MODEL_OPCODES };
 
 /* Makes case number `i`, 0 to BENCH_CASES - 1. */
 void bench_make(struct bench_case *c, int i);
@@ -33,5 +33,8 @@ void bench_make(struct bench_case *c, int i);
 /* Makes a case of 1,000 words of one operation, named by its mnemonic. Gives 0
  * and makes nothing where the opcode has no page. */
 int bench_make_operation(struct bench_case *c, int opcode);
+
+/* Makes a sheet to list: 4,095 words, the operations in turn, any fields. */
+void bench_make_listing(struct bench_case *c);
 
 #endif

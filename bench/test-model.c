@@ -10,6 +10,7 @@
  *                                   in parts
  *   test-model words                packing, unpacking, their refusals
  *   test-model forms                every way to break one field of a handler
+ *   test-model listings < BUNDLE    prints the answer to each case of a listing
  *
  * The formats and the draw are described in ../oracle/README.md. Exit status 1
  * on a miss.
@@ -655,6 +656,85 @@ static int try_forms(void)
     return missed != 0;
 }
 
+/* ---- Listings ----------------------------------------------------------- */
+
+enum { BEFORE = 0xA5, PAST = 64, MOST_LISTED = 425903, MOST_PACKED = 24574 };
+
+typedef struct model_verdict listing_function(const uint8_t *from,
+                                              size_t length, uint8_t *to,
+                                              size_t room, size_t *bytes);
+
+/* FNV-1a. */
+static uint32_t hash(const uint8_t *bytes, size_t length)
+{
+    uint32_t h = 2166136261u;
+    for (size_t i = 0; i < length; i++)
+        h = (h ^ bytes[i]) * 16777619u;
+    return h;
+}
+
+/* Room for a case's bytes: of no bytes too, as they are handed on. */
+static uint8_t *room_for(size_t bytes)
+{
+    uint8_t *room = malloc(bytes + 1);
+    if (room == NULL)
+        exit(1);
+    return memset(room, BEFORE, bytes + 1);
+}
+
+static size_t read4(FILE *in)
+{
+    size_t number = 0;
+    for (int i = 0; i < 4; i++)
+        number = number << 8 | (uint8_t)getc(in);
+    return number;
+}
+
+/* What is told of an accepted case: whether a sheet's listing gives it back, or
+ * the length and hash of the listing of a sheet that was read. */
+static void print_back(int kind, const uint8_t *from, size_t length,
+                       const uint8_t *out, size_t written)
+{
+    static uint8_t back[MOST_LISTED];
+    size_t bytes;
+    if (kind == 's') {
+        model_read(out, written, back, MOST_PACKED, &bytes);
+        int same = bytes == length && memcmp(back, from, length) == 0;
+        printf(same ? " same" : " differs");
+    } else {
+        model_list(out, written, back, MOST_LISTED, &bytes);
+        printf(" %08zX %08" PRIX32, bytes, hash(back, bytes));
+    }
+}
+
+static void print_case(int kind, const uint8_t *from, size_t length,
+                       uint8_t *out, size_t room)
+{
+    listing_function *function = kind == 's' ? model_list : model_read;
+    size_t written;
+    struct model_verdict v = function(from, length, out, room, &written);
+    size_t looked_at = written + PAST < room ? written + PAST : room;
+    printf("%c %02" PRIu32 " %04" PRIX64 " %08zX %08" PRIX32, kind, v.reason,
+           v.place % 0x10000, written, hash(out, looked_at));
+    if (v.reason == MODEL_DONE)
+        print_back(kind, from, length, out, written);
+    putchar('\n');
+}
+
+static int print_listings(void)
+{
+    for (int kind; (kind = getchar()) != EOF;) {
+        size_t room = read4(stdin), length = read4(stdin);
+        uint8_t *from = room_for(length), *out = room_for(room);
+        if (fread(from, 1, length, stdin) != length)
+            return 1;
+        print_case(kind, from, length, out, room);
+        free(from);
+        free(out);
+    }
+    return 0;
+}
+
 int main(int count, char **words)
 {
     const char *mode = count > 1 ? words[1] : "";
@@ -672,7 +752,10 @@ int main(int count, char **words)
         return try_words();
     if (strcmp(mode, "forms") == 0)
         return try_forms();
+    if (strcmp(mode, "listings") == 0)
+        return print_listings();
     fputs("usage: test-model vectors | digest | interrupts | trace\n"
-          "       test-model words | forms | traces FILE.in...\n", stderr);
+          "       test-model words | forms | listings | traces FILE.in...\n",
+          stderr);
     return 2;
 }

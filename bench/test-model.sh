@@ -1,6 +1,7 @@
 #!/bin/sh
 # Builds the hand-written C model and holds it to the independent program in
-# ../oracle: its vectors, its digests, its interrupted runs and its traces.
+# ../oracle: its vectors, its digests, its interrupted runs, its traces and its
+# listings.
 # Works from any directory. CC may name the compiler. Exit status 1 on a miss.
 set -eu
 here=$(cd -- "$(dirname -- "$0")" && pwd)
@@ -14,7 +15,7 @@ test=$work/test-model
 
 echo "== build: ${compiler##*/} -O3"
 "$compiler" -std=c11 -O3 -Wall -Wextra -Werror -o "$test" \
-    "$here/model.c" "$here/test-model.c"
+    "$here/model.c" "$here/listing.c" "$here/test-model.c"
 
 echo "== single word, and words run on registers"
 "$oracle" vectors >"$work/vectors"
@@ -45,4 +46,11 @@ for reason in 00 01 03 04 05 06 07 08 09 0B 0C 0D; do
         { echo "interrupts: no line with reason $reason"; exit 1; }
 done
 echo "interrupts: every reason of an interrupted run is among them"
+
+echo "== listings"
+"$oracle" listing-cases >"$work/bundle"
+"$oracle" random-texts "${TEXTS:-20000}" >>"$work/bundle"
+"$oracle" listing-answers <"$work/bundle" >"$work/answers"
+"$test" listings <"$work/bundle" | cmp "$work/answers" -
+echo "listings: $(wc -l <"$work/answers" | tr -d ' ') sheets and texts, 0 misses"
 echo "== all good"
