@@ -63,8 +63,10 @@ rust_host() {
 stand_in() {
     mkdir "$work/stand-in"
     "$compiler" $flags -I "$root/include" -c "$here/rust-host/stand-in.c" -o "$work/stand-in/stand-in.o"
-    "$compiler" -std=c11 -O2 -c "$root/bench/model.c" -o "$work/stand-in/model.o"
-    ar rc "$work/stand-in/libam29332.a" "$work/stand-in/stand-in.o" "$work/stand-in/model.o"
+    for part in model listing; do
+        "$compiler" -std=c11 -O2 -c "$root/bench/$part.c" -o "$work/stand-in/$part.o"
+    done
+    ar rc "$work/stand-in/libam29332.a" "$work/stand-in/stand-in.o" "$work/stand-in/model.o" "$work/stand-in/listing.o"
 }
 
 tried=

@@ -1,6 +1,7 @@
 /*
- * A host for the proved Am29332 in C: runs a sheet, word by word, at once, in
- * parts and interrupted, and prints what happened.
+ * A host for the proved Am29332 in C: lists a sheet and reads the listing back,
+ * runs it, word by word, at once, in parts and interrupted, and prints what
+ * happened.
  *
  *   host FILE.sheet     the sheet, then its registers, 4 bytes each, high first
  *
@@ -21,7 +22,8 @@ enum {
     HANDLER_WORDS = 7,
     HANDLER_BYTES = AM29332_SHEET_BYTES(HANDLER_WORDS),
     HANDLER_REGISTERS = 4,
-    PANEL_WORDS = 4
+    PANEL_WORDS = 4,
+    LISTING_LINES = 8
 };
 
 /* A sheet and the registers it starts with. */
@@ -130,6 +132,55 @@ static void make_handler(uint32_t first, uint8_t sheet[HANDLER_BYTES])
         uint8_t *at = sheet + AM29332_SHEET_BYTES(i);
         expect_done("packing", am29332_pack(word, at, AM29332_WORD_BYTES));
     }
+}
+
+/* ---- Listings ----------------------------------------------------------- */
+
+/* The first lines of a text. */
+static void print_lines(const uint8_t *text, size_t length)
+{
+    int lines = 0;
+    for (size_t i = 0; i < length && lines < LISTING_LINES; i++) {
+        if (i == 0 || text[i - 1] == '\n')
+            printf("  ");
+        putchar(text[i]);
+        lines += text[i] == '\n';
+    }
+}
+
+/* The sheet as text, and the text as a sheet again. */
+static void list_and_read(const struct job *job)
+{
+    static uint8_t text[AM29332_LISTING_MOST], sheet[AM29332_SHEET_MOST];
+    am29332_wrote listed =
+        am29332_list_sheet(job->bytes, job->length, text, sizeof text);
+    print_outcome("listing", listed.outcome);
+    printf("  %" PRIu64 " bytes\n", listed.bytes);
+    print_lines(text, listed.bytes);
+    am29332_wrote back =
+        am29332_read_listing(text, listed.bytes, sheet, sizeof sheet);
+    print_outcome("reading it", back.outcome);
+    printf("  %" PRIu64 " bytes, the same as the sheet's: %s\n", back.bytes,
+           back.bytes == job->length &&
+                   memcmp(sheet, job->bytes, job->length) == 0
+               ? "yes"
+               : "no");
+}
+
+/* A text that an editor wrote, with a line that has no Y. */
+static void read_fault(void)
+{
+    static const char text[] =
+        "version=1 registers=4\n"
+        "add code=3 position=0 width=0 a=0 b=1 y=2 write\n"
+        "sub code=3 position=0 width=0 a=2 b=3 write\n";
+    const uint8_t before[AM29332_SHEET_BYTES(2)] = {0};
+    uint8_t sheet[sizeof before] = {0};
+    am29332_wrote read = am29332_read_listing(
+        (const uint8_t *)text, sizeof text - 1, sheet, sizeof sheet);
+    print_outcome("reading a text whose line 2 lacks Y", read.outcome);
+    printf("  %" PRIu64 " bytes, a byte was changed: %s\n", read.bytes,
+           memcmp(sheet, before, sizeof sheet) == 0 ? "no" : "yes");
 }
 
 /* ---- Runs --------------------------------------------------------------- */
@@ -306,6 +357,8 @@ int main(int count, char **arguments)
     printf("  %zu words, %zu registers\n", job.words, job.registers);
     if (job.words > 0)
         first_word(&job);
+    list_and_read(&job);
+    read_fault();
     step_by_step(&job);
     am29332_machine machine = undisturbed(&job, file);
     if (job.registers + HANDLER_REGISTERS <= AM29332_MAX_REGISTERS)

@@ -109,6 +109,22 @@ am29332_outcome am29332_check_handler(const uint8_t *sheet, size_t length)
     return outcome(model_check_handler(sheet, length));
 }
 
+am29332_wrote am29332_list_sheet(const uint8_t *sheet, size_t length,
+                                 uint8_t *text, size_t room)
+{
+    size_t bytes;
+    struct model_verdict v = model_list(sheet, length, text, room, &bytes);
+    return (am29332_wrote){outcome(v), bytes};
+}
+
+am29332_wrote am29332_read_listing(const uint8_t *text, size_t length,
+                                   uint8_t *sheet, size_t room)
+{
+    size_t bytes;
+    struct model_verdict v = model_read(text, length, sheet, room, &bytes);
+    return (am29332_wrote){outcome(v), bytes};
+}
+
 am29332_ran am29332_run(const uint8_t *sheet, size_t length, uint32_t *file,
                         size_t registers, am29332_machine machine,
                         uint64_t start, uint64_t allowance)

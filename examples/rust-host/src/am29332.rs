@@ -40,6 +40,12 @@ mod library {
     }
 
     #[repr(C)]
+    pub struct Wrote {
+        pub outcome: Outcome,
+        pub bytes: u64,
+    }
+
+    #[repr(C)]
     pub struct Stepped {
         pub outcome: Outcome,
         pub y: u32,
@@ -69,6 +75,18 @@ mod library {
         pub fn am29332_read_header(sheet: *const u8, length: usize) -> Heading;
         pub fn am29332_check_sheet(sheet: *const u8, length: usize) -> Outcome;
         pub fn am29332_check_handler(sheet: *const u8, length: usize) -> Outcome;
+        pub fn am29332_list_sheet(
+            sheet: *const u8,
+            length: usize,
+            text: *mut u8,
+            room: usize,
+        ) -> Wrote;
+        pub fn am29332_read_listing(
+            text: *const u8,
+            length: usize,
+            sheet: *mut u8,
+            room: usize,
+        ) -> Wrote;
         pub fn am29332_run(
             sheet: *const u8,
             length: usize,
@@ -101,7 +119,11 @@ mod library {
 }
 
 /// The version of the header that this wrapper was written for: major, minor, patch.
-pub const VERSION: (u32, u32, u32) = (1, 0, 0);
+pub const VERSION: (u32, u32, u32) = (1, 1, 0);
+
+/// Bytes of buffers that always suffice: for a sheet, and for its listing.
+pub const SHEET_MOST: usize = 24_574;
+pub const LISTING_MOST: usize = 425_903;
 
 /// The version of the library that is linked.
 pub fn library_version() -> (u32, u32, u32) {
@@ -195,6 +217,8 @@ pub enum Reason {
     Overlap,
     Schedule,
     Room,
+    Text,
+    Count,
     Unknown(u32),
 }
 
@@ -215,8 +239,8 @@ pub struct Refusal {
     pub mark: Mark,
 }
 
-/// In the order of the numbers that document 01 gives them, from 1 on.
-const REASONS: [Reason; 14] = [
+/// In the order of the numbers that documents 01 and 02 give them, from 1 on.
+const REASONS: [Reason; 16] = [
     Reason::Opcode,
     Reason::Inputs,
     Reason::Short,
@@ -231,6 +255,8 @@ const REASONS: [Reason; 14] = [
     Reason::Overlap,
     Reason::Schedule,
     Reason::Room,
+    Reason::Text,
+    Reason::Count,
 ];
 
 /// In the order of their numbers, from 0 on.
@@ -242,7 +268,7 @@ impl Reason {
         known.copied().unwrap_or(Reason::Unknown(number))
     }
 
-    /// Document 01's number.
+    /// The number that documents 01 and 02 give it.
     pub fn number(self) -> u32 {
         let known = REASONS.iter().position(|&reason| reason == self);
         match (self, known) {
@@ -348,6 +374,28 @@ pub fn check_handler(sheet: &[u8]) -> Result<(), Refusal> {
     // SAFETY: a slice's own pointer and length.
     let outcome = unsafe { library::am29332_check_handler(sheet.as_ptr(), sheet.len()) };
     done(outcome, 0).map(|_| ())
+}
+
+/// A sheet as text that people read (docs/LISTING.md), at the start of `text`; how many bytes it
+/// has. Refuses as `check_sheet` does, then Room.
+pub fn list_sheet(sheet: &[u8], text: &mut [u8]) -> Result<usize, Refusal> {
+    // SAFETY: slices' own pointers and lengths, of which `text` alone is lent to be changed, and
+    // overlaps no other.
+    let wrote = unsafe {
+        library::am29332_list_sheet(sheet.as_ptr(), sheet.len(), text.as_mut_ptr(), text.len())
+    };
+    done(wrote.outcome, 0).map(|_| wrote.bytes as usize)
+}
+
+/// The sheet that a text stands for, at the start of `sheet`; how many bytes it has. Refuses line by
+/// line: Text, Version, Header of the first; Text, Inputs, Register of the others. Then Count, Room.
+pub fn read_listing(text: &[u8], sheet: &mut [u8]) -> Result<usize, Refusal> {
+    // SAFETY: slices' own pointers and lengths, of which `sheet` alone is lent to be changed, and
+    // overlaps no other.
+    let wrote = unsafe {
+        library::am29332_read_listing(text.as_ptr(), text.len(), sheet.as_mut_ptr(), sheet.len())
+    };
+    done(wrote.outcome, 0).map(|_| wrote.bytes as usize)
 }
 
 /// Runs a sheet from word `start`, at most `allowance` words, and gives the words run. Refuses as

@@ -1,12 +1,12 @@
-//! A host for the proved Am29332 in Rust: runs a sheet, word by word, at once, in parts and
-//! interrupted, and prints what happened, as examples/c-host does.
+//! A host for the proved Am29332 in Rust: lists a sheet and reads the listing back, runs it, word
+//! by word, at once, in parts and interrupted, and prints what happened, as examples/c-host does.
 //!
 //!     rust-host FILE.sheet     the sheet, then its registers, 4 bytes each, high first
 mod am29332;
 
 use am29332::{
-    check_handler, check_sheet, interrupted_run, library_version, read_header, run, step, Inputs,
-    Machine, Refusal, Word,
+    check_handler, check_sheet, interrupted_run, library_version, list_sheet, read_header,
+    read_listing, run, step, Inputs, Machine, Refusal, Word, LISTING_MOST, SHEET_MOST,
 };
 use std::process::exit;
 
@@ -16,6 +16,7 @@ const MOST_REGISTERS: usize = 64;
 const MOST_ENTRIES: usize = 1024;
 const HANDLER_REGISTERS: usize = 4;
 const PANEL_WORDS: usize = 4;
+const LISTING_LINES: usize = 8;
 
 // Opcodes that the handler uses.
 const PASS_STAT: u32 = 0x04;
@@ -119,6 +120,45 @@ fn make_handler(first: u32) -> Result<Vec<u8>, Refusal> {
         sheet.extend(bytes);
     }
     Ok(sheet)
+}
+
+// ---- listings
+
+/// The sheet as text, and the text as a sheet again.
+fn list_and_read(job: &Job) {
+    let mut text = vec![0; LISTING_MOST];
+    let listed = list_sheet(&job.sheet, &mut text);
+    print_check("listing", listed.map(|_| ()));
+    text.truncate(listed.unwrap_or(0));
+    println!("  {} bytes", text.len());
+    let lines = String::from_utf8_lossy(&text);
+    for line in lines.lines().take(LISTING_LINES) {
+        println!("  {line}");
+    }
+    let mut sheet = vec![0; SHEET_MOST];
+    let back = read_listing(&text, &mut sheet);
+    print_check("reading it", back.map(|_| ()));
+    sheet.truncate(back.unwrap_or(0));
+    println!(
+        "  {} bytes, the same as the sheet's: {}",
+        sheet.len(),
+        yes(sheet == job.sheet)
+    );
+}
+
+/// A text that an editor wrote, with a line that has no Y.
+fn read_fault() {
+    let text = b"version=1 registers=4\n\
+        add code=3 position=0 width=0 a=0 b=1 y=2 write\n\
+        sub code=3 position=0 width=0 a=2 b=3 write\n";
+    let mut sheet = [0; HEADER_BYTES + 2 * WORD_BYTES];
+    let read = read_listing(text, &mut sheet);
+    print_check("reading a text whose line 2 lacks Y", read.map(|_| ()));
+    println!(
+        "  {} bytes, a byte was changed: {}",
+        read.unwrap_or(0),
+        yes(sheet.iter().any(|&byte| byte != 0))
+    );
 }
 
 // ---- runs
@@ -283,6 +323,8 @@ fn main() {
     if job.words > 0 {
         first_word(&job);
     }
+    list_and_read(&job);
+    read_fault();
     if let Err(refusal) = step_by_step(&job) {
         print_outcome("step", Err(refusal));
         exit(1);
