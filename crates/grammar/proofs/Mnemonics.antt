@@ -5,14 +5,15 @@ use mathlib.Core.Bool.{Bool, true, false, _&&_, and-eq-true-iff}
 use Prim.Native.Nat.{ℕ, zero, suc, _+_, _-_, _≤_, _<_}
 use native.Mathlib.Numerals.{add-one}
 use native.Mathlib.Omega.{arith}
-use lib.ListN.{length, take, drop, replicate, drop-of-length-le}
+use lib.ListN.{length, getD, take, drop, replicate, drop-of-length-le}
 use lib.Seq.{drop-cons, take-append-seam}
 use Rattle.text.specs.Ascii.{space, same}
-use Rattle.mnemonics.specs.Mnemonics.{mnemonics, mnemonicOf, inColumn}
-use Rattle.mnemonics.proofs.Mnemonics.{at-mnemonic}
+use Rattle.mnemonics.specs.Mnemonics.{mnemonics, mnemonicOf, inColumn, columns}
+use Rattle.mnemonics.proofs.Mnemonics.{column-at, at-mnemonic}
+use Rattle.mnemonics.proofs.Columns.{column-length}
 use Rattle.grammar.specs.declared.Found.the-variants.{Number, Nothing}
 use Rattle.grammar.specs.Grammar.{choose, capital, placeOf, opcodeOf}
-use Rattle.grammar.specs.Scan.{solid, leading, solidEnd}
+use Rattle.grammar.specs.Scan.{solid, leading, solidEnd, nameIn}
 
 -- ---- none has a blank
 -- every byte of a text passes
@@ -42,12 +43,17 @@ solid-run (c ∷ cs) rest e z =
 column-end : (m : List ℕ) → every solid m ≡ true → solidEnd (inColumn m) 0 ≡ length m
 column-end m e = omega (arith, solid-run m (replicate (12 - length m) space) e (fill-blank (12 - length m)))
 
-column-front : (m : List ℕ) → every solid m ≡ true → take (solidEnd (inColumn m) 0) (inColumn m) ≡ m
+column-front : (m : List ℕ) → every solid m ≡ true → nameIn (inColumn m) ≡ m
 column-front m e = ap (λ (n : ℕ). take n (inColumn m)) (column-end m e) ∙ take-append-seam m (replicate (12 - length m) space)
 
--- as the code finds it
-pub mnemonic-in : (k : ℕ) {column : List ℕ} {n : ℕ} → column ≡ inColumn (mnemonicOf k) → n ≡ solidEnd column 0 → take n column ≡ mnemonicOf k
-mnemonic-in k e f = rw (f, e) (column-front (mnemonicOf k) (solid-at k))
+-- as the code finds it, in the table
+pub mnemonic-in : (k : ℕ) {all : List (List ℕ)} → all ≡ columns → k < 128 → nameIn (getD all k []) ≡ mnemonicOf k
+mnemonic-in k e h =
+    ap (λ (l : List (List ℕ)). nameIn (getD l k [])) e ∙ ap nameIn (column-at k h) ∙ column-front (mnemonicOf k) (solid-at k)
+
+-- a column has twelve bytes
+pub column-count : (k : ℕ) {all : List (List ℕ)} → all ≡ columns → k < 128 → length (getD all k []) ≡ 12
+column-count k e h = ap (λ (l : List (List ℕ)). length (getD l k [])) e ∙ ap length (column-at k h) ∙ column-length k
 
 -- ---- the number of a mnemonic
 -- what holds at each turn: the part is none of the mnemonics passed

@@ -43,6 +43,10 @@ partOf line at = record { «from» = startOf line at; to = stopOf line at }
 unfoldable pub partAt : List ℕ → ℕ → List ℕ
 partAt line at = map capital (take (stopOf line at - startOf line at) (drop (startOf line at) line))
 
+-- the name in a column: what stands before its first blank
+abbrev pub nameIn : List ℕ → List ℕ
+nameIn column = take (solidEnd column 0) column
+
 -- the next part as a number, and where it ends
 abbrev pub takenBy : Found → ℕ → Taken
 takenBy (Number n) to = Upto n to

@@ -4,10 +4,9 @@ ghost use mathlib.Core.Path.{_≡_};
 ghost use mathlib.Core.List.{[], _∷_, map};
 ghost use Prim.Native.Nat.{_≤_, _<_};
 ghost use lib.ListN.{length, drop};
-ghost use Rattle.mnemonics.specs.Mnemonics.{mnemonicOf};
 ghost use Rattle.text.specs.Ascii.{same};
 ghost use Rattle.grammar.specs.Grammar.{blank, capital, isDigit, numberIn, startsWith, labelled, opcodeOf, headIn, wordIn};
-ghost use Rattle.grammar.specs.Scan.{startOf, solidEnd, partOf, takenBy, takenAt, threeAt, switchAt, switchesAt, noMore};
+ghost use Rattle.grammar.specs.Scan.{startOf, solidEnd, nameIn, partOf, takenBy, takenAt, threeAt, switchAt, switchesAt, noMore};
 
 // What a part says: a number, or nothing that the grammar knows.
 pub enum Found {
@@ -199,13 +198,11 @@ fn labelled(part: &[u8], name: &[u8]) -> Found
     number(part, name.len())
 }
 
-// Whether a part is the mnemonic of an opcode number, which stands in a column of twelve.
-fn is_mnemonic(part: &[u8], opcode: usize) -> bool
-    requires { ⌜ opcode < 128 ⌝ }
-    ensures { λ r. ⌜ r ≡ same (map capital (now (part .entry))) (mnemonicOf opcode) ⌝ }
+// Whether a part is the mnemonic that stands in a column.
+fn is_mnemonic(part: &[u8], column: &[u8]) -> bool
+    ensures { λ r. ⌜ r ≡ same (map capital (now (part .entry))) (nameIn (now (column .entry))) ⌝ }
 {
-    let column = mnemonics::column(opcode);
-    let n = past_part(&column, 0);
+    let n = past_part(column, 0);
     is_name(part, &column[..n])
 }
 
@@ -216,9 +213,11 @@ fn opcode(part: &[u8]) -> Found
     if part.len() == 0 {
         return Found::Nothing;
     }
+    let columns = mnemonics::table();
     let mut k: usize = 0;
     while k < 128 {
-        if is_mnemonic(part, k) {
+        let column = columns[k];
+        if is_mnemonic(part, &column) {
             return Found::Number(k as u32);
         }
         k += 1;

@@ -14,14 +14,11 @@ use Rattle.chip.specs.Glossary.Page.{no-page}
 use Rattle.chip.specs.Single.{noPage, lacksPage}
 use Rattle.text.specs.Ascii.{ascii, same}
 use Rattle.text.proofs.Same.{and-left, and-right}
-use Rattle.mnemonics.specs.Mnemonics.{mnemonics, mnemonicOf, inColumn}
+use Rattle.mnemonics.specs.Mnemonics.{mnemonics, mnemonicOf, inColumn, columns}
 
 -- each in its column
 abbrev columnOf : String → List ℕ
 columnOf m = inColumn (ascii m)
-
-abbrev pub columns : List (List ℕ)
-columns = map columnOf mnemonics
 
 -- within a list the element that stands for one past it does not matter
 within : {A : Type 0} (l : List A) (n : ℕ) (d e : A) → n < length l → getD l n d ≡ getD l n e

@@ -1,5 +1,5 @@
 -- The mnemonics, each as the manual spells it on its page in chapter 2.
-use mathlib.Core.List.{List, [], _∷_, _++_}
+use mathlib.Core.List.{List, [], _∷_, _++_, map}
 use Prim.Native.Nat.{ℕ, _-_}
 use Prim.Native.String.{String}
 use lib.ListN.{length, getD, replicate}
@@ -56,3 +56,7 @@ mnemonicOf n = ascii (getD mnemonics n "")
 -- a mnemonic in its column of twelve
 abbrev pub inColumn : List ℕ → List ℕ
 inColumn m = m ++ replicate (12 - length m) space
+
+-- all of them, each in its column
+abbrev pub columns : List (List ℕ)
+columns = map (λ m. inColumn (ascii m)) mnemonics

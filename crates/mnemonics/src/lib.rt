@@ -1,7 +1,7 @@
 // The mnemonics of the operations, in one table (docs/LISTING.md).
 ghost use mathlib.Core.Path.{_≡_};
 ghost use Prim.Native.Nat.{_<_};
-ghost use Rattle.mnemonics.specs.Mnemonics.{mnemonicOf, inColumn};
+ghost use Rattle.mnemonics.specs.Mnemonics.{mnemonicOf, inColumn, columns};
 
 // The longest has eleven bytes.
 pub const COLUMN: usize = 12;
@@ -146,10 +146,18 @@ const MNEMONICS: [[u8; COLUMN]; 128] = [
     *b"PASS-MASK   ",
 ];
 
+// All of them. A constant is built anew at each use, so who looks through the table takes it once.
+pub fn table() -> [[u8; COLUMN]; 128]
+    ensures { λ r. ⌜ r ≡ columns ⌝ }
+{
+    MNEMONICS
+}
+
 // The mnemonic of an opcode number, in its column.
 pub fn column(opcode: usize) -> [u8; COLUMN]
     requires { ⌜ opcode < 128 ⌝ }
     ensures { λ r. ⌜ r ≡ inColumn (mnemonicOf opcode) ⌝ }
 {
-    MNEMONICS[opcode]
+    let all = table();
+    all[opcode]
 }
