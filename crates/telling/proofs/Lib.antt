@@ -1,0 +1,2 @@
+-- These proofs assume nothing.
+pub mod Telling

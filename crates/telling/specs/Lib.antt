@@ -1,0 +1,2 @@
+-- These definitions assume nothing.
+pub mod Telling
