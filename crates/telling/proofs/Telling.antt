@@ -8,9 +8,16 @@ use lib.ListN.{length, getD, take, drop, length-append}
 use lib.Dec.{ltb}
 use Rattle.reasons.specs.declared.Reason.{Reason}
 use Rattle.reasons.specs.declared.Reason.the-variants.{Done, Opcode, Inputs, Short, Version, Header, Length, File, Spare, Register, Start, Form, Overlap, Schedule, Room, Text, Count}
-use Rattle.reasons.specs.Reasons.{numberOf}
+use Rattle.reasons.specs.declared.Check.{Check}
+use Rattle.reasons.specs.declared.Check.the-variants.{Good, Bad}
+use Rattle.reasons.specs.declared.Output.{Output}
+use Rattle.reasons.specs.Reasons.{numberOf, firstOf}
+use Rattle.reasons.specs.Output.{Wrote, wrote, wroteBy}
 use Rattle.text.specs.Text.{either, hexOf, decimalOf}
 use Rattle.text.specs.Ascii.{ascii}
+use Rattle.listing.specs.Lines.{listingOf}
+use Rattle.listing.specs.Lister.{listRows, listOf}
+use Rattle.reading.specs.Reader.{readRows, sheetIn, readOf}
 use Rattle.telling.specs.Telling.{nameOf, expectedOf, numbersOf, placed, digitsIn, plainOf, placeBy, toldOf}
 
 -- ---- a reason known by its variant
@@ -146,3 +153,18 @@ module _ (counted : List ℕ) (place : ℕ) where
   place-on true false e h = absurd (true≢false e)
   place-on false true e h = refl
   place-on false false e h = absurd (true≢false h)
+
+-- ---- answers
+-- an output is no longer than its buffer
+output-fits : (c : Check) (out d b : List ℕ) (a : Output) → wrote a b ≡ wroteBy c out d → length b ≡ length d → a .bytes ≤ length d
+output-fits Good out d b a e h =
+    omega (arith, ap (λ (w : Wrote). w .answer .bytes) e, ap (λ (w : Wrote). length (w .buffer)) e ∙ length-append out (drop (length out) d))
+output-fits (Bad reason place) out d b a e h = omega (arith, ap (λ (w : Wrote). w .answer .bytes) e)
+
+pub list-fits : (s d b : List ℕ) (a : Output) → wrote a b ≡ listOf s d → length b ≡ length d → a .bytes ≤ length d
+unfolding listOf
+list-fits s d b a e h = output-fits (firstOf (listRows s (length d))) (listingOf s) d b a e h
+
+pub read-fits : (t d b : List ℕ) (a : Output) → wrote a b ≡ readOf t d → length b ≡ length d → a .bytes ≤ length d
+unfolding readOf
+read-fits t d b a e h = output-fits (firstOf (readRows t (length d))) (sheetIn t) d b a e h

@@ -1,4 +1,5 @@
 -- A refusal in words: the line that the trace would end in, and after it the reason's name, the place, and what was expected.
+use mathlib.Core.Path.{_≡_}
 use mathlib.Core.List.{List, [], _∷_, _++_}
 use mathlib.Core.Bool.{Bool, true, false}
 use Prim.Native.Nat.{ℕ, _%_}
@@ -6,9 +7,12 @@ use Prim.Native.String.{String}
 use lib.Dec.{ltb}
 use Rattle.reasons.specs.declared.Reason.{Reason}
 use Rattle.reasons.specs.declared.Reason.the-variants.{Done, Opcode, Inputs, Short, Version, Header, Length, File, Spare, Register, Start, Form, Overlap, Schedule, Room, Text, Count}
+use Rattle.reasons.specs.declared.Check.{Check}
+use Rattle.reasons.specs.declared.Check.the-variants.{Good, Bad}
 use Rattle.reasons.specs.Reasons.{numberOf}
 use Rattle.text.specs.Text.{either, hexOf, decimalOf}
 use Rattle.text.specs.Ascii.{ascii, space, newline}
+use Rattle.text.specs.Fill.{Written}
 
 -- document 01's and 02's name of a reason
 abbrev pub nameOf : Reason → String
@@ -96,3 +100,8 @@ toldOf reason place counted =
     ++ ascii ": expected "
     ++ ascii (expectedOf reason)
     ++ newline ∷ []
+
+-- what is shown of an answer: the output, which stands at the buffer's start already, or the line of the refusal in its place
+abbrev pub ShownBy : Check → ℕ → List ℕ → List ℕ → ℕ → List ℕ → Type 0
+ShownBy Good bytes counted before n after = (n ≡ bytes) × (after ≡ before)
+ShownBy (Bad reason place) bytes counted before n after = Written (toldOf reason place counted) before n after

@@ -1,6 +1,7 @@
 // Refusals told to people: the trace's last line, and after it the reason's name, the place, and what was expected there. And what the programs
 // `list` and `assemble` do: a call, and its output or its refusal written.
 use reasons::Check;
+use reasons::Output;
 use reasons::Reason;
 ghost use mathlib.Core.Path.{_≡_};
 ghost use Prim.Native.Nat.{_+_, _≤_, _<_, _%_};
@@ -8,7 +9,7 @@ ghost use lib.ListN.{length};
 ghost use Rattle.text.specs.Text.{decimalOf};
 ghost use Rattle.text.specs.Ascii.{ascii};
 ghost use Rattle.text.specs.Fill.{Added, Written};
-ghost use Rattle.telling.specs.Telling.{nameOf, expectedOf, placed, digitsIn, plainOf, placeBy, numbersOf, toldOf};
+ghost use Rattle.telling.specs.Telling.{nameOf, expectedOf, placed, digitsIn, plainOf, placeBy, numbersOf, toldOf, ShownBy};
 
 // The bytes of the two numbers with their blanks, and more than any line has.
 const NUMBERS: usize = 8;
@@ -197,4 +198,56 @@ pub fn tell(reason: Reason, place: usize, counted: &[u8], text: &mut [u8]) -> us
     let what = text::put(b": expected ", text, colon);
     let end = put_expected(reason, text, what);
     text::put(b"\n", text, end)
+}
+
+// ---- answers
+
+// What is shown of an answer: its output, which stands at the start of the buffer, or a refusal's line there; how many bytes it has.
+fn shown(answer: Output, counted: &[u8], buffer: &mut [u8]) -> usize
+    requires { ⌜ (256 ≤ length (now buffer)) × (length (now counted) ≤ 8) × (answer .bytes ≤ length (now buffer)) ⌝ }
+    ensures { λ r. ⌜ r ≤ length (now (buffer .entry)) ⌝ }
+    ensures line { λ r. ⌜ ShownBy (answer .check) (answer .bytes) (now (counted .entry)) (now (buffer .entry)) r (now (buffer .exit)) ⌝ }
+{
+    let check = answer.check;
+    if let Check::Bad { reason, place } = check {
+        return tell(reason, place, counted, buffer);
+    }
+    answer.bytes
+}
+
+// Where an answer of the assembler goes: a sheet to standard output, a refusal's line, which is no sheet, to standard error.
+fn stream(answer: Output) -> i32 {
+    let check = answer.check;
+    if let Check::Bad { reason: _, place: _ } = check {
+        return 2;
+    }
+    1
+}
+
+// The listing of a sheet, or why it has none, to standard output, by way of a buffer.
+pub fn write_listing(sheet: &[u8], text: &mut [u8])
+    requires { ⌜ 256 ≤ length (now text) ⌝ }
+{
+    let answer = listing::list(sheet, text);
+    let n = shown(answer, b"word", text);
+    io::write_all(1, &text[..n]);
+}
+
+// The sheet of a text; a text that fills what the program has for it may be cut short, and is refused.
+fn assembled(text: &[u8], room: usize, sheet: &mut [u8]) -> Output
+    ensures { λ r. ⌜ r .bytes ≤ length (now (sheet .entry)) ⌝ }
+{
+    if room <= text.len() {
+        return reasons::nothing_written(Reason::Room, 0);
+    }
+    reading::read(text, sheet)
+}
+
+// That sheet to standard output, by way of a buffer.
+pub fn write_sheet(text: &[u8], room: usize, sheet: &mut [u8])
+    requires { ⌜ 256 ≤ length (now sheet) ⌝ }
+{
+    let answer = assembled(text, room, sheet);
+    let n = shown(answer, b"line", sheet);
+    io::write_all(stream(answer), &sheet[..n]);
 }
