@@ -218,10 +218,10 @@ fn shown(answer: Output, counted: &[u8], buffer: &mut [u8]) -> usize
 // Where an answer of the assembler goes: a sheet to standard output, a refusal's line, which is no sheet, to standard error.
 fn stream(answer: Output) -> i32 {
     let check = answer.check;
-    if let Check::Bad { reason: _, place: _ } = check {
-        return 2;
+    if let Check::Good = check {
+        return 1;
     }
-    1
+    2
 }
 
 // The listing of a sheet, or why it has none, to standard output, by way of a buffer.
