@@ -11,10 +11,8 @@ ghost use Rattle.text.specs.Ascii.{ascii};
 ghost use Rattle.text.specs.Fill.{Added, Written};
 ghost use Rattle.telling.specs.Telling.{nameOf, expectedOf, placed, digitsIn, plainOf, placeBy, numbersOf, toldOf, ShownBy};
 
-// The bytes of the two numbers with their blanks, and more than any line has.
+// The bytes of the two numbers with their blanks.
 const NUMBERS: usize = 8;
-
-pub const MOST: usize = 256;
 
 // ---- parts of the line
 
