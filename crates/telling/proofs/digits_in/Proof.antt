@@ -1,7 +1,6 @@
 -- The tests one after another, as the definition has them.
 use native.Mathlib.Omega.{arith}
 use borrow.Author.Tests.{lt-ltb, le-ltb}
-use borrow.Author.Needs.{needs}
 use Rattle.telling.proofs.digits_in.Statement.{statement}
 use Rattle.telling.proofs.digits_in.Tie as tie
 

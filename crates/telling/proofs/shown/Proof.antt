@@ -1,6 +1,5 @@
 -- The output stands as it is; a refusal is told.
 use mathlib.Core.Path.{refl}
-use native.Mathlib.Omega.{arith}
 use borrow.Author.Needs.{needs}
 use Rattle.telling.proofs.shown.Statement.{statement}
 use Rattle.telling.proofs.shown.Tie as tie
