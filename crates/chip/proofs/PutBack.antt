@@ -20,13 +20,13 @@ giving opcode a =
 abbrev statusAfter : List Word → List ℕ → ℕ
 statusAfter ws saved = handedBack (execs ws (state saved (record { q = 5; status = loaded 0 })) .core) .status
 
--- LOADQ-A, then LDSTAT-A: the status is the saved one, here without any flag
-pub q-before-status : statusAfter (giving 0x06 1 ∷ giving 0x1c 0 ∷ []) (0 ∷ 0x8000_0000 ∷ []) ≡ 0
+-- LOADQ-A, then LDSTAT-A: the status is the saved one, here without any flag; bit 13 is not C
+pub q-before-status : statusAfter (giving 0x06 1 ∷ giving 0x1c 0 ∷ []) (0 ∷ 0x8000_0000 ∷ []) ≡ 0x0000_2000
 unfolding readAt storeAt stepOf execs loadQ loadStatus zeroOf merged asRead loaded gathered spreadOut performOf
 q-before-status = refl
 
 -- LDSTAT-A, then LOADQ-A: N is set by a negative Q, and Z by a Q of zero
-pub status-before-q : statusAfter (giving 0x1c 0 ∷ giving 0x06 1 ∷ []) (0 ∷ 0x8000_0000 ∷ []) ≡ 0x0002_c000
+pub status-before-q : statusAfter (giving 0x1c 0 ∷ giving 0x06 1 ∷ []) (0 ∷ 0x8000_0000 ∷ []) ≡ 0x0002_e000
 unfolding readAt storeAt stepOf execs loadQ loadStatus zeroOf merged asRead loaded gathered spreadOut performOf
 status-before-q = refl
 

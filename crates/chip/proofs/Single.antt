@@ -2,17 +2,16 @@
 use mathlib.Core.Path.{_≡_, refl, sym, ap, ap₂, _∙_}
 use mathlib.Core.List.{[], _∷_}
 use mathlib.Core.Bool.{Bool, true, false}
-use Rattle.machine.specs.Core.{shownBy}
 use Rattle.reasons.specs.declared.Reason.the-variants.{Opcode as NoOpcode, Inputs as BadInputs}
 use Rattle.reasons.specs.Reasons.{_gives_at_, firstOf, outcomeOf, checkNumbers}
 use Rattle.chip.specs.declared.SingleWord.{SingleWord}
 use Rattle.chip.specs.declared.SingleAnswer.{SingleAnswer}
 use Rattle.chip.specs.declared.Operation.{Operation}
 use Rattle.chip.specs.declared.Decoded.the-variants.{Known, Opcode}
-use Rattle.chip.specs.Glossary.{Page, pageOf, performOf}
+use Rattle.chip.specs.Glossary.{Page, pageOf}
 use Rattle.chip.specs.Glossary.Page.{page, no-page}
 use Rattle.chip.specs.Operations.{decodedOf}
-use Rattle.chip.specs.Single.{noPage, lacksPage, outOfRange, singleInputs, performed, refusedAs, unless, singleOf, singleOutcome}
+use Rattle.chip.specs.Single.{noPage, lacksPage, outOfRange, singleShown, performed, refusedAs, unless, singleOf, singleOutcome}
 use Rattle.chip.proofs.Pages.{pageFor, page-decoded}
 
 module _ (s : SingleWord) where
@@ -38,7 +37,7 @@ module _ (s : SingleWord) where
 
   pub answered : (o : Operation) → decodedOf (s .opcode) ≡ Known o
       → outOfRange (s .code) (s .position) (s .width) (s .select) (s .carry) (s .link) (s .borrow) ≡ false
-      → performed (singleInputs s) (shownBy (performOf (s .opcode) (singleInputs s))) ≡ singleOf s
+      → performed (singleShown s) ≡ singleOf s
   unfolding by-rows tested
   answered o e t = sym (ap₂ by-rows (page-decoded (s .opcode) ∙ ap pageFor e) t) ∙ from-rows
 

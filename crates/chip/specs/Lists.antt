@@ -46,9 +46,9 @@ inputsOf w t =
 abbrev pub written : Word → ℕ → List ℕ → List ℕ
 written w y file = choose (w .write) file (storeAt file (w .y) y)
 
--- what a word shows: Y, and the core after it
+-- what a word shows: Y, its borrow switch, and the core after it
 abbrev pub shownOf : Word → State → Shown
-shownOf w t = shownBy (performOf (w .opcode) (inputsOf w t))
+shownOf w t = shownBy (w .borrow) (performOf (w .opcode) (inputsOf w t))
 
 -- one word
 unfoldable pub stepOf : Word → State → State

@@ -7,8 +7,7 @@ use Rattle.bits.specs.Bits.{parityOf}
 use Rattle.machine.specs.declared.Inputs.{Inputs}
 use Rattle.machine.specs.declared.Core.{Core}
 use Rattle.machine.specs.declared.Shown.{Shown}
-use Rattle.machine.specs.Inputs.{readBy}
-use Rattle.machine.specs.Core.{taken, shownBy}
+use Rattle.machine.specs.Core.{taken, shownBy, shownStatus}
 use Rattle.reasons.specs.declared.Reason.{Reason}
 use Rattle.reasons.specs.declared.Reason.the-variants.{Done, Opcode, Inputs as InputsReason}
 use Rattle.reasons.specs.declared.Check.{Check}
@@ -58,17 +57,21 @@ singleInputs s =
       status = core .status;
     }
 
--- Y, its parity, Q and the status as the word reads it
-abbrev pub performed : Inputs → Shown → SingleAnswer
-performed x s =
-    record { reason = Done; place = 0; y = s .y; parity = parityOf (s .y); q = s .core .q; status = readBy x (s .core .status) }
+-- what stands at the chip, and what the word shows
+abbrev pub singleShown : SingleWord → Shown
+singleShown s = shownBy (s .borrow) (performOf (s .opcode) (singleInputs s))
+
+-- Y, its parity, Q and the status as the word itself reads it
+abbrev pub performed : Shown → SingleAnswer
+performed x =
+    record { reason = Done; place = 0; y = x .y; parity = parityOf (x .y); q = x .core .q; status = shownStatus x }
 
 -- a refusal repeats the Q and status handed in, bit for bit, with Y and parity 0
 abbrev pub refusedAs : Reason → SingleWord → SingleAnswer
 refusedAs r s = record { reason = r; place = 0; y = 0; parity = 0; q = s .q; status = s .status }
 
 abbrev pub unless : Check → SingleWord → SingleAnswer
-unless Good s = performed (singleInputs s) (shownBy (performOf (s .opcode) (singleInputs s)))
+unless Good s = performed (singleShown s)
 unless (Bad r p) s = refusedAs r s
 
 unfoldable pub singleOf : SingleWord → SingleAnswer

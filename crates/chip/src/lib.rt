@@ -7,12 +7,11 @@ ghost use mathlib.Core.Path.{_≡_};
 ghost use lib.ListN.{getD};
 ghost use Rattle.reasons.specs.Reasons.{outcomeOf};
 ghost use Rattle.machine.specs.Inputs.{Sound};
-ghost use Rattle.machine.specs.Core.{shownBy};
 ghost use Rattle.arithmetic.specs.Arithmetic.{SUBRC};
 ghost use Rattle.chip.specs.Operations.{decodedOf, basics, meaningOf};
 ghost use Rattle.chip.specs.declared.Decoded.the-variants.{Known};
 ghost use Rattle.chip.specs.Glossary.{performOf};
-ghost use Rattle.chip.specs.Single.{lacksPage, outOfRange, refusedAs, singleInputs, performed, singleOf, singleOutcome};
+ghost use Rattle.chip.specs.Single.{lacksPage, outOfRange, refusedAs, singleInputs, singleShown, performed, singleOf, singleOutcome};
 
 // The fields of one word of a sheet.
 #[repr(C)]
@@ -231,19 +230,17 @@ fn inputs(s: SingleWord) -> Inputs
 // The answer of a word whose opcode has a page and whose inputs are in range.
 fn answer(operation: Operation, s: SingleWord) -> SingleAnswer
     requires { ⌜ (decodedOf (s .opcode) ≡ Known operation) × Sound (singleInputs s) ⌝ }
-    ensures { λ r. ⌜ r ≡ performed (singleInputs s) (shownBy (performOf (s .opcode) (singleInputs s))) ⌝ }
+    ensures { λ r. ⌜ r ≡ performed (singleShown s) ⌝ }
 {
     let x = inputs(s);
-    let shown = perform(operation, x).shown();
-    let core = shown.core;
-    let status = core.status;
+    let shown = perform(operation, x).shown(s.borrow);
     SingleAnswer {
         reason: Reason::Done,
         place: 0,
         y: shown.y,
         parity: bits::parity(shown.y),
-        q: core.q,
-        status: x.read(status),
+        q: shown.core.q,
+        status: shown.status(),
     }
 }
 

@@ -9,8 +9,8 @@ use Rattle.bits.specs.Bits.{bitOf, signOf, zeroOf, notOf, upBy, rotatedUp, mask
 use Rattle.bits.proofs.BitByBit.{bit-lt}
 use Rattle.bits.proofs.Bounds.{zero-flag, choose-lt, not-lt, cut-lt, up-lt, mask-lt, rotated-lt, masked-lt, put-bit-lt}
 use Rattle.machine.specs.declared.Inputs.{Inputs}
-use Rattle.machine.specs.Status.{asRead, loaded, withN, withZ}
-use Rattle.machine.specs.Inputs.{positionOf, givenWidth, fullWidth, widthOf, leaving, Sound, Kept}
+use Rattle.machine.specs.Status.{loaded, withN, withZ}
+use Rattle.machine.specs.Inputs.{positionOf, givenWidth, fullWidth, widthOf, readBy, leaving, Sound, Kept}
 use Rattle.machine.proofs.Round.{loaded-good, read-lt}
 use Rattle.machine.proofs.Kept.{good-n, good-z, good-l, kept-at}
 use Rattle.fields.specs.Position.{placeOf, sixthOf, displaced, wholeResult}
@@ -75,14 +75,14 @@ module _ (x : Inputs) (sound : Sound x) (hq : x .q < 2 ^ 32) where
   pub putStatus-kept : (f : ℕ) → Kept (putStatus x f)
   unfolding putStatus
   putStatus-kept f =
-      let w : ℕ = putBit (placeOf x) f (asRead (x .status)) in
-      record { y = read-lt (loaded w) (loaded-good w); q = hq; status = loaded-good w }
+      let w : ℕ = putBit (placeOf x) f (readBy x (x .status)) in
+      record { y = read-lt (x .borrow) (loaded w) (loaded-good w); q = hq; status = loaded-good w }
 
   pub EXTBIT-STAT-kept : Kept (EXTBIT-STAT x)
   unfolding EXTBIT-STAT
   EXTBIT-STAT-kept =
-      let f : ℕ = extracted x (asRead (x .status)) in
-      record { y = word f (extracted-lt (asRead (x .status))); q = hq; status = good-l f (x .status) (extracted-lt (asRead (x .status))) (sound .status) }
+      let f : ℕ = extracted x (readBy x (x .status)) in
+      record { y = word f (extracted-lt (readBy x (x .status))); q = hq; status = good-l f (x .status) (extracted-lt (readBy x (x .status))) (sound .status) }
 
   pub inField-kept : (field r u : ℕ) → r < 2 ^ 32 → u < 2 ^ 32 → Kept (inField x field r u)
   unfolding inField

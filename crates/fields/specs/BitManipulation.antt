@@ -47,7 +47,7 @@ abbrev pub RSTBIT-B : Inputs → Outputs
 RSTBIT-B x = putInto x (x .b) 0 1
 
 -- The bit of the status register is set to f, the others are unaffected, and bits 13, 14, 15 and 23 are read-only (M31). The new value also
--- appears on the Y bus.
+-- appears on the Y bus, as this word reads it (M27).
 unfoldable pub putStatus : Inputs → ℕ → Outputs
 putStatus x f =
     let s : Status = loaded (putBit (placeOf x) f (readBy x (x .status))) in
@@ -61,7 +61,7 @@ SETBIT-STAT x = putStatus x 1
 abbrev pub RSTBIT-STAT : Inputs → Outputs
 RSTBIT-STAT x = putStatus x 0
 
--- 7E. As EXTBIT, of the status register as it is read (M27); no bit of it other than L changes, Z neither (M28).
+-- 7E. As EXTBIT, of the status register as this word reads it (M27); no bit of it other than L changes, Z neither (M28).
 unfoldable pub EXTBIT-STAT : Inputs → Outputs
 EXTBIT-STAT x =
     let f : ℕ = extracted x (readBy x (x .status)) in

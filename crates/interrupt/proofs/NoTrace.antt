@@ -27,8 +27,8 @@ use Rattle.interrupt.proofs.Owners.Line.{done, next, let-in}
 use Rattle.interrupt.proofs.Frame.{step-other, step-reads, step-stores, step-core, step-same, execs-same, execs-other, execs-kept}
 
 -- what a fixed word shows, by its opcode and what that leaves
-does : (w : Word) (n : ℕ) (t : State) {o : Outputs} → w .opcode ≡ n → performOf n (inputsOf w t) ≡ o → shownOf w t ≡ shownBy o
-does w n t e f = ap (λ (k : ℕ). shownBy (performOf k (inputsOf w t))) e ∙ ap shownBy f
+does : (w : Word) (n : ℕ) (t : State) {o : Outputs} → w .opcode ≡ n → performOf n (inputsOf w t) ≡ o → shownOf w t ≡ shownBy (w .borrow) o
+does w n t e f = ap (λ (k : ℕ). shownBy (w .borrow) (performOf k (inputsOf w t))) e ∙ ap (shownBy (w .borrow)) f
 
 -- LOADQ-A puts A into Q, and LDSTAT-A into the status
 abbrev core : ℕ → Status → Core
@@ -91,7 +91,11 @@ module _ (own : ℕ → Type 0) (s q : ℕ) (h : List Word) (F : Handler own s q
 
   -- Q and the status come back
   module _ (t : State) (sane : Sane t) (s-in : s < length (t .file)) (q-in : q < length (t .file)) where
-    o0 : shownOf (F .w0) t ≡ shownBy (leaving (inputsOf (F .w0) t) (asRead (t .core .status)) (t .core .status))
+    -- what the first word saves: the status as it reads it; in which mode does not matter, since bit 13 is ignored when it is loaded back
+    abbrev saved : ℕ
+    saved = asRead (F .w0 .borrow) (t .core .status)
+
+    o0 : shownOf (F .w0) t ≡ shownBy (F .w0 .borrow) (leaving (inputsOf (F .w0) t) saved (t .core .status))
     o0 =
         does (F .w0) 0x04 t (F .saves-status .opcode)
         (pass-stat (inputsOf (F .w0) t) (F .saves-status .code) (sane .file (F .w0 .b)) (sane .status))
@@ -99,13 +103,13 @@ module _ (own : ℕ → Type 0) (s q : ℕ) (h : List Word) (F : Handler own s q
     core0 : after0 t .core ≡ t .core
     core0 = step-core (F .w0) t ∙ ap (λ (x : Shown). x .core) o0
 
-    s0 : readAt (after0 t .file) s ≡ asRead (t .core .status)
+    s0 : readAt (after0 t .file) s ≡ saved
     s0 =
         ap (λ (r : ℕ). readAt (after0 t .file) r) (sym (F .to-s))
         ∙ step-stores (F .w0) t (F .saves-status .write) (subst (λ (r : ℕ). r < length (t .file)) (sym (F .to-s)) s-in)
         ∙ ap (λ (x : Shown). x .y) o0
 
-    o1 : shownOf (F .w1) (after0 t) ≡ shownBy (leaving (inputsOf (F .w1) (after0 t)) (after0 t .core .q) (after0 t .core .status))
+    o1 : shownOf (F .w1) (after0 t) ≡ shownBy (F .w1 .borrow) (leaving (inputsOf (F .w1) (after0 t)) (after0 t .core .q) (after0 t .core .status))
     o1 =
         does (F .w1) 0x05 (after0 t) (F .saves-q .opcode)
         (pass-q (inputsOf (F .w1) (after0 t)) (F .saves-q .code) (sane0 t sane .file (F .w1 .b)) (sane0 t sane .q))
@@ -116,7 +120,7 @@ module _ (own : ℕ → Type 0) (s q : ℕ) (h : List Word) (F : Handler own s q
         ∙ step-stores (F .w1) (after0 t) (F .saves-q .write) (subst (λ (r : ℕ). r < length (after0 t .file)) (sym (F .to-q)) (omega (arith, step-size (F .w0) t)))
         ∙ ap (λ (x : Shown). x .y) o1 ∙ ap (λ (c : Core). c .q) core0
 
-    s1 : readAt (after1 t .file) s ≡ asRead (t .core .status)
+    s1 : readAt (after1 t .file) s ≡ saved
     s1 = step-other (F .w1) (after0 t) s (λ e. F .apart (e ∙ F .to-q)) ∙ s0
 
     -- from there to the last two words no save register is written
@@ -131,7 +135,7 @@ module _ (own : ℕ → Type 0) (s q : ℕ) (h : List Word) (F : Handler own s q
         loads (F .v1) (after-body t) (F .gives-q .opcode) (F .gives-q .code) (sane-body t sane)
         ∙ ap (λ (r : ℕ). readAt (after-body t .file) r) (F .from-q) ∙ kept q (F .q-out) ∙ q1
 
-    sv : readAt (after-v1 t .file) (F .v2 .a) ≡ asRead (t .core .status)
+    sv : readAt (after-v1 t .file) (F .v2 .a) ≡ saved
     sv =
         ap (λ (r : ℕ). readAt (after-v1 t .file) r) (F .from-s)
         ∙ ap (λ (l : List ℕ). readAt l s) (step-reads (F .v1) (after-body t) (F .gives-q .write))
@@ -140,7 +144,7 @@ module _ (own : ℕ → Type 0) (s q : ℕ) (h : List Word) (F : Handler own s q
     pub core-back : execs h t .core ≡ t .core
     core-back =
         ap (λ (u : State). u .core) (by-words t) ∙ loads-stat (F .v2) (after-v1 t) (F .gives-status .opcode) (F .gives-status .code) (sane-v1 t sane)
-        ∙ (λ i. core (qv i) ((ap loaded sv ∙ loaded-read (t .core .status) (sane .status)) i))
+        ∙ (λ i. core (qv i) ((ap loaded sv ∙ loaded-read (F .w0 .borrow) (t .core .status) (sane .status)) i))
 
   -- a register that the handler does not own, and that is no save register, stays
   pub other-stays : (t : State) (r : ℕ) → (own r → ⊥) → (r ≡ s → ⊥) → (r ≡ q → ⊥) → readAt (execs h t .file) r ≡ readAt (t .file) r

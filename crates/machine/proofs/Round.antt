@@ -1,6 +1,6 @@
--- A status that is read and loaded again is the same status; and what is loaded is in range.
+-- A status that is read and loaded again is the same status, whichever mode it was read in; and what is loaded is in range.
 use mathlib.Core.Path.{_≡_, sym, ap, _∙_}
-use Prim.Native.Nat.{ℕ, _+_, _*_, _/_, _%_, _^_, _<_, max}
+use Prim.Native.Nat.{ℕ, zero, suc, _+_, _*_, _/_, _%_, _^_, _<_}
 use native.Mathlib.Nat.{div-one}
 use native.Mathlib.Omega.{arith}
 use lib.Pow.{high, low}
@@ -8,8 +8,9 @@ use Rattle.machine.specs.declared.Status.{Status}
 use Rattle.machine.specs.Status.{workedOut, gathered, spreadOut, asRead, loaded, Good, withNibbles}
 use Rattle.machine.proofs.Nibbles.{gathered-lt, apart-spread}
 
-pub worked-out-lt : (c n v z : ℕ) → c < 2 → n < 2 → v < 2 → z < 2 → max c z + (n + v) % 2 * 2 + max ((n + v) % 2) z * 4 < 8
-worked-out-lt c n v z hc hn hv hz = omega arith
+pub worked-out-lt : (borrow : ℕ) (s : Status) → Good s → workedOut borrow s < 8
+worked-out-lt zero s g = omega arith
+worked-out-lt (suc k) s g = omega arith
 
 -- a field of j bits above k
 pub field-at : (k j hi f lo x : ℕ) → x ≡ (hi * 2 ^ j + f) * 2 ^ k + lo → lo < 2 ^ k → f < 2 ^ j → x / 2 ^ k % 2 ^ j ≡ f
@@ -35,11 +36,11 @@ module _ (p w d c n v z l m s b : ℕ) (hp : p < 256) (hw : w < 32) (hd : d < 8)
       let e9 : word / 2 ^ 24 ≡ b = omega arith in
       λ i. record { position = e0 i; width = e1 i; c = e2 i; n = e3 i; v = e4 i; z = e5 i; l = e6 i; m = e7 i; s = e8 i; nibbles = spreadOut 8 (e9 i) }
 
-pub loaded-read : (s : Status) → Good s → loaded (asRead s) ≡ s
+pub loaded-read : (borrow : ℕ) (s : Status) → Good s → loaded (asRead borrow s) ≡ s
 unfolding asRead
-loaded-read s g =
-    fields-of (s .position) (s .width) (workedOut s) (s .c) (s .n) (s .v) (s .z) (s .l) (s .m) (s .s) (gathered 8 (s .nibbles))
-    (g .position) (g .width) (worked-out-lt (s .c) (s .n) (s .v) (s .z) (g .c) (g .n) (g .v) (g .z)) (g .c) (g .n) (g .v) (g .z) (g .l) (g .m) (g .s)
+loaded-read borrow s g =
+    fields-of (s .position) (s .width) (workedOut borrow s) (s .c) (s .n) (s .v) (s .z) (s .l) (s .m) (s .s) (gathered 8 (s .nibbles))
+    (g .position) (g .width) (worked-out-lt borrow s g) (g .c) (g .n) (g .v) (g .z) (g .l) (g .m) (g .s)
     ∙ ap (λ (b : ℕ). withNibbles b s) (g .nibbles)
 
 pub loaded-good : (x : ℕ) → Good (loaded x)
@@ -57,6 +58,6 @@ loaded-good x = record {
   nibbles = apart-spread 8 (x / 2 ^ 24);
 }
 
-pub read-lt : (s : Status) → Good s → asRead s < 2 ^ 32
+pub read-lt : (borrow : ℕ) (s : Status) → Good s → asRead borrow s < 2 ^ 32
 unfolding asRead
-read-lt s g = let h : workedOut s < 8 = worked-out-lt (s .c) (s .n) (s .v) (s .z) (g .c) (g .n) (g .v) (g .z) in omega (arith, gathered-lt 8 (s .nibbles))
+read-lt borrow s g = omega (arith, worked-out-lt borrow s g, gathered-lt 8 (s .nibbles))

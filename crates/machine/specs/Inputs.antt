@@ -34,9 +34,9 @@ carryIn x = choose (x .select) (x .status .c) (x .carry)
 abbrev pub linkIn : Inputs → ℕ
 linkIn x = choose (x .select) (x .status .l) (x .link)
 
--- the status register as a word that stands at the chip reads it
+-- the status register as a word that stands at the chip reads it, by its own borrow switch (M27)
 abbrev pub readBy : Inputs → Status → ℕ
-readBy x s = asRead s
+readBy x s = asRead (x .borrow) s
 
 -- ---- what a word leaves
 -- y on the Y bus and s in the status register; Q as it was

@@ -1,14 +1,14 @@
 -- The status register ('Status Register', figure 3): its fields, the word that a program reads, and the word that it loads. Inside the chip it
 -- is held without bits 13, 14, 15 and 23.
 use mathlib.Core.Path.{_≡_}
-use Prim.Native.Nat.{ℕ, zero, suc, _+_, _*_, _/_, _%_, _^_, _<_, max}
-use Rattle.bits.specs.Bits.{xor}
+use Prim.Native.Nat.{ℕ, zero, suc, _+_, _-_, _*_, _/_, _%_, _^_, _<_, max}
+use Rattle.bits.specs.Bits.{choose, xor}
 use Rattle.machine.specs.declared.Status.{Status}
 
 -- ---- the relational bits, read only, under figure 3's names
--- 13: C or Z, in carry mode too, where two pages have (not C) or Z (M27)
-abbrev pub UNSIGNED-LE : Status → ℕ
-UNSIGNED-LE s = max (s .c) (s .z)
+-- 13: C or Z in borrow mode, (not C) or Z in carry mode (M27): the one bit that goes by the borrow switch of whatever reads it
+abbrev pub UNSIGNED-LE : ℕ → Status → ℕ
+UNSIGNED-LE borrow s = choose borrow (max (1 - s .c) (s .z)) (max (s .c) (s .z))
 
 -- 14: N xor V
 abbrev pub SIGNED-LT : Status → ℕ
@@ -19,8 +19,8 @@ abbrev pub SIGNED-LE : Status → ℕ
 SIGNED-LE s = max (SIGNED-LT s) (s .z)
 
 -- the three as one number
-abbrev pub workedOut : Status → ℕ
-workedOut s = UNSIGNED-LE s + SIGNED-LT s * 2 + SIGNED-LE s * 4
+abbrev pub workedOut : ℕ → Status → ℕ
+workedOut borrow s = UNSIGNED-LE borrow s + SIGNED-LT s * 2 + SIGNED-LE s * 4
 
 -- the nibble bits, bits 31 to 24, are held as they arise, the bit of nibble i at 4 i: the bits of k nibbles side by side, as they are read
 unfoldable pub gathered : ℕ → ℕ → ℕ
@@ -32,12 +32,16 @@ unfoldable pub spreadOut : ℕ → ℕ → ℕ
 spreadOut zero x = 0
 spreadOut (suc k) x = x % 2 + 16 * spreadOut k (x / 2)
 
--- the register as it is read: bits 13 to 15 worked out, bit 23 zero
-unfoldable pub asRead : Status → ℕ
-asRead s =
+-- the borrow switch of carry mode; that of borrow mode is 1
+abbrev pub carryMode : ℕ
+carryMode = 0
+
+-- the register as it is read under a borrow switch: bits 13 to 15 worked out, bit 23 zero
+unfoldable pub asRead : ℕ → Status → ℕ
+asRead borrow s =
     s .position
     + s .width * 2 ^ 8
-    + workedOut s * 2 ^ 13
+    + workedOut borrow s * 2 ^ 13
     + s .c * 2 ^ 16
     + s .n * 2 ^ 17
     + s .v * 2 ^ 18

@@ -1,9 +1,9 @@
 // The machine: the status register, Q, and what stands at the chip when a word starts and when it ends.
 ghost use mathlib.Core.Path.{_≡_};
 ghost use Prim.Native.Nat.{_+_, _*_, _^_, _<_, _≤_};
-ghost use Rattle.machine.specs.Status.{workedOut, gathered, spreadOut, asRead, loaded, Good};
+ghost use Rattle.machine.specs.Status.{UNSIGNED-LE, SIGNED-LT, SIGNED-LE, gathered, spreadOut, asRead, loaded, Good};
 ghost use Rattle.machine.specs.Inputs.{bitsOf, positionOf, widthOf, carryIn, linkIn, readBy, fullWidth, result, Sound};
-ghost use Rattle.machine.specs.Core.{freshOf, taken, handedBack, shownBy};
+ghost use Rattle.machine.specs.Core.{freshOf, taken, handedBack, shownBy, shownStatus};
 
 // The status register as fields, without bits 13, 14, 15 and 23. Each flag is 0 or 1; the bit of nibble i is bit 4 i.
 pub struct Status {
@@ -55,9 +55,10 @@ pub struct Outputs {
     pub status: Status,
 }
 
-// What one executed word shows: Y, and the core after it.
+// What one executed word shows: Y, its borrow switch, by which its status is read, and the core after it.
 pub struct Shown {
     pub y: u32,
+    pub borrow: u32,
     pub core: Core,
 }
 
@@ -80,7 +81,7 @@ impl Machine {
 }
 
 impl Core {
-    // Handed back: those four bits are worked out.
+    // Handed back: those four bits are worked out, bit 13 in carry mode whatever words ran.
     pub fn leave(self) -> Machine
         requires { ⌜ Good (self .status) ⌝ }
         ensures { λ r. ⌜ r ≡ handedBack self ⌝ }
@@ -88,27 +89,42 @@ impl Core {
         let status = self.status;
         Machine {
             q: self.q,
-            status: status.read(),
+            status: status.read(Status::CARRY_MODE),
         }
     }
 }
 
 impl Outputs {
-    // What is kept of it and shown.
-    pub fn shown(self) -> Shown
-        ensures { λ r. ⌜ r ≡ shownBy self ⌝ }
+    // What is kept of it and shown, of a word with the given borrow switch.
+    pub fn shown(self, borrow: u32) -> Shown
+        ensures { λ r. ⌜ r ≡ shownBy borrow self ⌝ }
     {
         let status = self.status;
         Shown {
             y: self.y,
+            borrow,
             core: Core { q: self.q, status },
         }
+    }
+}
+
+impl Shown {
+    // The status register as the word that ran reads it: what a single word answers and a trace's line prints.
+    pub fn status(self) -> u32
+        requires { ⌜ Good (self .core .status) ⌝ }
+        ensures { λ r. ⌜ r ≡ shownStatus self ⌝ }
+    {
+        let core = self.core;
+        let status = core.status;
+        status.read(self.borrow)
     }
 }
 
 impl Status {
     // Bit weights (figure 3). The position bits start at weight 1.
     pub const WIDTH: u32 = 0x100;
+
+    pub const UNSIGNED_LE: u32 = 0x2000;
 
     pub const C: u32 = 0x1_0000;
 
@@ -125,6 +141,9 @@ impl Status {
     pub const S: u32 = 0x40_0000;
 
     pub const NIBBLES: u32 = 0x100_0000;
+
+    // The borrow switch of carry mode, in which calls hand the register back; that of borrow mode is 1.
+    pub const CARRY_MODE: u32 = 0;
 
     // A word loaded into the register: bits 13, 14, 15 and 23 are ignored.
     pub fn load(x: u32) -> Status
@@ -163,33 +182,43 @@ impl Status {
         }
     }
 
-    // Each flag with those of bits 13 to 15 that it counts in: C in 13, N and V in 14 and 15, Z in 13 and 15.
-    const C_13: u32 = 0x1_2000;
-
+    // Each flag with those of bits 14 and 15 that it counts in: N and V in both, Z in 15.
     const N_14_15: u32 = 0x2_c000;
 
     const V_14_15: u32 = 0x4_c000;
 
-    const Z_13_15: u32 = 0x8_a000;
+    const Z_15: u32 = 0x8_8000;
 
-    // Bits 13 to 19 in their places: where one bit is of two flags, N and V are exclusive, C and Z are not.
+    // Bits 14 to 19 in their places: where one bit is of two flags, N and V are exclusive, Z is not.
     fn flags(self) -> u32
         requires { ⌜ Good self ⌝ }
-        ensures { λ r. ⌜ (r ≡ workedOut self * 2 ^ 13 + self .c * 2 ^ 16 + self .n * 2 ^ 17 + self .v * 2 ^ 18 + self .z * 2 ^ 19) × (r < 2 ^ 20) ⌝ }
+        ensures { λ r. ⌜ (r ≡ SIGNED-LT self * 2 ^ 14 + SIGNED-LE self * 2 ^ 15 + self .c * 2 ^ 16 + self .n * 2 ^ 17 + self .v * 2 ^ 18 + self .z * 2 ^ 19) × (r < 2 ^ 20) ⌝ }
     {
         ((self.n * Self::N_14_15) ^ (self.v * Self::V_14_15))
-            | (self.c * Self::C_13)
-            | (self.z * Self::Z_13_15)
+            | (self.c * Self::C)
+            | (self.z * Self::Z_15)
     }
 
-    // The register as it is read.
-    pub fn read(self) -> u32
+    // Bit 13: C or Z in borrow mode, (not C) or Z in carry mode.
+    fn unsigned_le(self, borrow: u32) -> u32
         requires { ⌜ Good self ⌝ }
-        ensures { λ r. ⌜ r ≡ asRead self ⌝ }
+        ensures { λ r. ⌜ (r ≡ UNSIGNED-LE borrow self) × (r < 2) ⌝ }
+    {
+        if borrow == Self::CARRY_MODE {
+            return (1 - self.c) | self.z;
+        }
+        self.c | self.z
+    }
+
+    // The register as it is read under a borrow switch.
+    pub fn read(self, borrow: u32) -> u32
+        requires { ⌜ Good self ⌝ }
+        ensures { λ r. ⌜ r ≡ asRead borrow self ⌝ }
     {
         let flags = self.flags();
         self.position
             + self.width * Self::WIDTH
+            + self.unsigned_le(borrow) * Self::UNSIGNED_LE
             + flags
             + self.l * Self::L
             + self.m * Self::M
@@ -269,12 +298,12 @@ impl Inputs {
         self.link
     }
 
-    // The status register as this word reads it: the only way in which a page reads it.
+    // The status register as this word reads it, by its own borrow switch: the only way in which a page reads it.
     pub fn read(self, status: Status) -> u32
         requires { ⌜ Good status ⌝ }
         ensures { λ r. ⌜ r ≡ readBy self status ⌝ }
     {
-        status.read()
+        status.read(self.borrow)
     }
 
     // What most words leave: r in the selected bytes, u in the others, Z and N of r.

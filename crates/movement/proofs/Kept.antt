@@ -4,8 +4,7 @@ use native.Mathlib.Omega.{arith}
 use Rattle.bits.specs.Bits.{signOf, zeroOf, merged, copies, priorityOf}
 use Rattle.bits.proofs.Bounds.{zero-flag, sign-flag, merged-lt, copies-lt, priority-le}
 use Rattle.machine.specs.declared.Inputs.{Inputs}
-use Rattle.machine.specs.Status.{asRead}
-use Rattle.machine.specs.Inputs.{bitsOf, Sound, Kept}
+use Rattle.machine.specs.Inputs.{bitsOf, readBy, Sound, Kept}
 use Rattle.machine.proofs.Round.{loaded-good, read-lt}
 use Rattle.machine.proofs.Kept.{bits-le, good-z, good-position, good-zero-sign, result-kept}
 use Rattle.movement.specs.DataMovement.{zeroExtend, signExtend, PASS-STAT, PASS-Q, loadQ, loadStatus}
@@ -27,7 +26,7 @@ module _ (x : Inputs) (h : Sound x) (hb : x .b < 2 ^ 32) (hq : x .q < 2 ^ 32) wh
 
   pub pass-status-kept : Kept (PASS-STAT x)
   unfolding PASS-STAT
-  pass-status-kept = record { y = merged-lt (bitsOf x) (asRead (x .status)) (x .b) (bits-le x h) hb; q = hq; status = h .status }
+  pass-status-kept = record { y = merged-lt (bitsOf x) (readBy x (x .status)) (x .b) (bits-le x h) hb; q = hq; status = h .status }
 
   pub pass-q-kept : Kept (PASS-Q x)
   unfolding PASS-Q
@@ -44,9 +43,9 @@ module _ (x : Inputs) (h : Sound x) (hb : x .b < 2 ^ 32) (hq : x .q < 2 ^ 32) wh
   pub load-status-kept : (s : ℕ) → Kept (loadStatus x s)
   unfolding loadStatus
   load-status-kept s = record {
-    y = merged-lt (bitsOf x) s (asRead (x .status)) (bits-le x h) (read-lt (x .status) (h .status));
+    y = merged-lt (bitsOf x) s (readBy x (x .status)) (bits-le x h) (read-lt (x .borrow) (x .status) (h .status));
     q = hq;
-    status = loaded-good (merged (bitsOf x) s (asRead (x .status)));
+    status = loaded-good (merged (bitsOf x) s (readBy x (x .status)));
   }
 
   pub sign-kept : Kept (SIGN x)

@@ -32,7 +32,7 @@ SIGN-EXTA x = signExtend x (x .a)
 abbrev pub SIGN-EXTB : Inputs → Outputs
 SIGN-EXTB x = signExtend x (x .b)
 
--- 04. The status register as it is read, bit 13 with no regard to borrow mode (M27); unselected bytes from B. No flag changes.
+-- 04. The status register as this word reads it, bit 13 by its borrow mode (M27); unselected bytes from B. No flag changes.
 unfoldable pub PASS-STAT : Inputs → Outputs
 PASS-STAT x = leaving x (merged (bitsOf x) (readBy x (x .status)) (x .b)) (x .status)
 
@@ -64,7 +64,7 @@ abbrev pub MERGEB-A : Inputs → Outputs
 MERGEB-A x = result x (x .b) (x .a)
 
 -- The selected bytes are loaded into the status register, the others of it are not affected; the Y bus shows the operand's selected bytes
--- as they are (M29), and the status register's other bytes. STATUS <13, 14, 15, 23> cannot be written.
+-- as they are (M29), and the status register's other bytes as this word reads them. STATUS <13, 14, 15, 23> cannot be written.
 unfoldable pub loadStatus : Inputs → ℕ → Outputs
 loadStatus x s =
     let y : ℕ = merged (bitsOf x) s (readBy x (x .status)) in

@@ -45,7 +45,7 @@ word-sound n w t r g = record {
 }
 
 -- it leaves Y, Q and the status in range
-outputs-kept : (n : ℕ) (w : Word) (t : State) → WordReady n w → Sane t → Kept (performOf (w .opcode) (inputsOf w t))
+pub outputs-kept : (n : ℕ) (w : Word) (t : State) → WordReady n w → Sane t → Kept (performOf (w .opcode) (inputsOf w t))
 outputs-kept n w t r s = perform-kept (inputsOf w t) (word-sound n w t r (s .status)) (s .file (w .a)) (s .file (w .b)) (s .q) (w .opcode)
 
 -- the two ways of a step

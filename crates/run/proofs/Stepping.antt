@@ -1,13 +1,20 @@
 -- One word of a sheet by itself: the ways in which it ends, that it is a run of one word, and that it has one outcome.
 use mathlib.Core.Path.{_≡_, refl, ap, ap₂, sym, _∙_}
 use mathlib.Core.List.{List, [], _∷_}
-use Prim.Native.Nat.{ℕ, zero, suc, _≤_, _<_}
+use Prim.Native.Nat.{ℕ, zero, suc, _^_, _≤_, _<_}
 use native.Mathlib.Omega.{arith}
 use borrow.Author.Tests.{le-ltb}
 use lib.ListN.{length, set, take, drop}
 use Rattle.bits.specs.Bits.{choose}
 use Rattle.machine.specs.declared.Machine.{Machine}
+use Rattle.machine.specs.declared.Core.{Core}
+use Rattle.machine.specs.declared.Status.{Status}
+use Rattle.machine.specs.declared.Shown.{Shown}
+use Rattle.machine.specs.Core.{taken, handedBack}
+use Rattle.machine.proofs.Round.{loaded-read}
+use Rattle.machine.proofs.Handed.{taken-back, taken-good}
 use Rattle.reasons.specs.declared.Reason.{Reason}
+use Rattle.reasons.specs.declared.Reason.the-variants.{Done}
 use Rattle.reasons.specs.declared.Check.{Check}
 use Rattle.reasons.specs.declared.Check.the-variants.{Good as Passed, Bad}
 use Rattle.reasons.specs.declared.Outcome.{Outcome}
@@ -15,7 +22,7 @@ use Rattle.reasons.specs.Reasons.{outcomeOf}
 use Rattle.chip.specs.declared.Word.{Word}
 use Rattle.chip.specs.declared.SingleAnswer.{SingleAnswer}
 use Rattle.chip.specs.Single.{outOfRange, performed, singleOf}
-use Rattle.chip.specs.Lists.{inputsOf, shownOf, stepOf, execs}
+use Rattle.chip.specs.Lists.{readAt, written, shownOf, stepOf, execs}
 use Rattle.chip.proofs.Files.{store-is}
 use Rattle.sheet.specs.Sheet.{executionsOf, checkOf, WordReady}
 use Rattle.sheet.specs.declared.Given.the-variants.{Number}
@@ -24,8 +31,8 @@ use Rattle.sheet.proofs.Positions.All.{none, more}
 use Rattle.sheet.proofs.Table.{ready}
 use Rattle.run.specs.Run.{entering, Ended, ended, ran, runOf, outcomeAfter, runOutcome}
 use Rattle.run.specs.Step.{Halted, halted, idle, standing, ranAs, leftBy, performedOn, firstOn, unless, oneWordOf}
-use Rattle.run.proofs.Laws.{each-ready}
-use Rattle.run.proofs.Parts.{run-refused, run-is}
+use Rattle.run.proofs.Laws.{each-ready, outputs-kept}
+use Rattle.run.proofs.Parts.{run-refused, run-is, entering-sane}
 
 -- ---- a word on a file
 module _ (w : Word) (file : List ℕ) (m : Machine) where
@@ -43,7 +50,7 @@ module _ (w : Word) (file : List ℕ) (m : Machine) where
     performed-keep z = ap (halted (ranAs a)) (sym (rw z refl)) ∙ ap (leftBy w file) e
 
   -- a word that can be run is not refused as a single word
-  pub single-runs : {n : ℕ} → WordReady n w → singleOf (standing w file m) ≡ performed (inputsOf w (entering file m)) (shownOf w (entering file m))
+  pub single-runs : {n : ℕ} → WordReady n w → singleOf (standing w file m) ≡ performed (shownOf w (entering file m))
   unfolding singleOf outOfRange
   single-runs r =
       rw (
@@ -59,9 +66,14 @@ module _ (w : Word) (file : List ℕ) (m : Machine) where
       refl
 
 -- ---- a step
--- what a run answers of it: Y and parity are not told
-abbrev pub asRun : Halted → Ended
-asRun h = ended (record { reason = h .answer .reason; place = h .answer .place; machine = h .answer .machine }) (h .file)
+-- the status as a run hands it back: in carry mode, where a word shows it by its own switch; a refusal's is as it was
+abbrev pub inCarryMode : Check → Machine → Machine
+inCarryMode Passed m = handedBack (taken m)
+inCarryMode (Bad r p) m = m
+
+-- what a run answers of a step: Y and parity are not told
+abbrev pub asRun : Check → Halted → Ended
+asRun c h = ended (record { reason = h .answer .reason; place = h .answer .place; machine = inCarryMode c (h .answer .machine) }) (h .file)
 
 module _ (s file : List ℕ) (m : Machine) (start : ℕ) where
   pub step-refused : (r : Reason) (p : ℕ) → checkOf s (Number (length file)) (Number start) ≡ Bad r p
@@ -89,17 +101,22 @@ module _ (s file : List ℕ) (m : Machine) (start : ℕ) where
       go Passed (w ∷ ws) = refl
       go (Bad r p) ws = refl
 
-  -- It is a run of one word: file, Q, status, reason and place are those of a run with an allowance of 1.
-  pub step-runs : asRun (oneWordOf s file m start) ≡ runOf s file m start 1
+  -- It is a run of one word: file, Q, reason and place are those of a run with an allowance of 1, and so is the status, read in carry mode.
+  pub step-runs : ((r : ℕ) → readAt file r < 2 ^ 32) → m .q < 2 ^ 32
+      → asRun (checkOf s (Number (length file)) (Number start)) (oneWordOf s file m start) ≡ runOf s file m start 1
   unfolding oneWordOf execs stepOf
-  step-runs = go (checkOf s (Number (length file)) (Number start)) refl
+  step-runs registers q = go (checkOf s (Number (length file)) (Number start)) refl
     where
-      first : (ws : List Word) → All (WordReady (length file)) ws → asRun (firstOn ws file m) ≡ ran (take 1 ws) (entering file m)
-      first [] none = refl
-      first (w ∷ ws) (more r a) = ap (λ (x : SingleAnswer). asRun (leftBy w file x)) (single-runs w file m r)
+      first : (ws : List Word) → All (WordReady (length file)) ws → asRun Passed (firstOn ws file m) ≡ ran (take 1 ws) (entering file m)
+      first [] none = ap (λ (c : Core). ended (record { reason = Done; place = 0; machine = handedBack c }) file) (taken-back (taken m) (taken-good m))
+      first (w ∷ ws) (more r a) =
+          let x : Shown = shownOf w (entering file m) in
+          ap (λ (x : SingleAnswer). asRun Passed (leftBy w file x)) (single-runs w file m r)
+          ∙ ap (λ (t : Status). ended (record { reason = Done; place = 1; machine = handedBack (record { q = x .core .q; status = t }) }) (written w (x .y) file))
+          (loaded-read (w .borrow) (x .core .status) (outputs-kept (length file) w (entering file m) r (entering-sane file m registers q) .status))
 
       go : (c : Check) → checkOf s (Number (length file)) (Number start) ≡ c
-          → asRun (unless c file m (firstOn (drop start (executionsOf s)) file m)) ≡ runOf s file m start 1
+          → asRun c (unless c file m (firstOn (drop start (executionsOf s)) file m)) ≡ runOf s file m start 1
       go Passed e =
           first (drop start (executionsOf s))
           (all-drop _ start (executionsOf s) (each-ready s (length file) (ready s (length file) (Number start) e)))

@@ -66,7 +66,7 @@ fn step(word: Word, file: &mut [u32], core: Core) -> Shown
         q: core.q,
         status,
     };
-    let shown = dispatch::operate(word.opcode, x).shown();
+    let shown = dispatch::operate(word.opcode, x).shown(word.borrow);
     if word.write == 1 {
         file[y] = shown.y;
         return shown;

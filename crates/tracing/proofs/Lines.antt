@@ -8,7 +8,7 @@ use Rattle.machine.specs.declared.Shown.{Shown}
 use Rattle.machine.specs.declared.Machine.{Machine}
 use Rattle.machine.specs.Status.{Good}
 use Rattle.machine.specs.declared.Core.{Core}
-use Rattle.machine.specs.Core.{freshOf, taken, handedBack}
+use Rattle.machine.specs.Core.{freshOf, taken, shownStatus}
 use Rattle.machine.proofs.Handed.{taken-good}
 use Rattle.reasons.specs.declared.Reason.{Reason}
 use Rattle.reasons.specs.declared.Reason.the-variants.{Done}
@@ -42,15 +42,15 @@ pub last-is : (n p : List ℕ) (reason : Reason) (k place : ℕ) → k ≡ numbe
 unfolding lastOf
 last-is n p reason k place e f g = rw (f, g, e) refl
 
-pub line-is : (i y q s : List ℕ) (index : ℕ) (x : Shown) (m : Machine) → m ≡ handedBack (x .core) → i ≡ hexOf 4 index → y ≡ hexOf 8 (x .y) → q ≡ hexOf 8 (m .q)
-    → s ≡ hexOf 8 (m .status)
+pub line-is : (i y q s : List ℕ) (index : ℕ) (x : Shown) (status : ℕ) → status ≡ shownStatus x → i ≡ hexOf 4 index → y ≡ hexOf 8 (x .y) → q ≡ hexOf 8 (x .core .q)
+    → s ≡ hexOf 8 status
     → getD i 0 0 ∷ getD i 1 0 ∷ getD i 2 0 ∷ getD i 3 0 ∷ 32
     ∷ getD y 0 0 ∷ getD y 1 0 ∷ getD y 2 0 ∷ getD y 3 0 ∷ getD y 4 0 ∷ getD y 5 0 ∷ getD y 6 0 ∷ getD y 7 0 ∷ 32
     ∷ getD q 0 0 ∷ getD q 1 0 ∷ getD q 2 0 ∷ getD q 3 0 ∷ getD q 4 0 ∷ getD q 5 0 ∷ getD q 6 0 ∷ getD q 7 0 ∷ 32
     ∷ getD s 0 0 ∷ getD s 1 0 ∷ getD s 2 0 ∷ getD s 3 0 ∷ getD s 4 0 ∷ getD s 5 0 ∷ getD s 6 0 ∷ getD s 7 0 ∷ 10 ∷ []
     ≡ lineOf index x
 unfolding lineOf
-line-is i y q s index x m e e₁ e₂ e₃ e₄ = rw (e₁, e₂, e₃, e₄, e) refl
+line-is i y q s index x status e e₁ e₂ e₃ e₄ = rw (e₁, e₂, e₃, e₄, e) refl
 
 pub line-length : (index : ℕ) (x : Shown) → length (lineOf index x) ≡ lineLength
 unfolding lineOf

@@ -3,8 +3,7 @@ use mathlib.Core.List.{List, [], _∷_, _++_}
 use Prim.Native.Nat.{ℕ, _+_}
 use lib.ListN.{length}
 use Rattle.machine.specs.declared.Shown.{Shown}
-use Rattle.machine.specs.Status.{asRead}
-use Rattle.machine.specs.Core.{freshOf}
+use Rattle.machine.specs.Core.{freshOf, shownStatus}
 use Rattle.reasons.specs.declared.Reason.{Reason}
 use Rattle.reasons.specs.declared.Reason.the-variants.{Done}
 use Rattle.reasons.specs.declared.Check.{Check}
@@ -18,13 +17,13 @@ use Rattle.sheet.specs.Sheet.{executionsOf, inputOf}
 use Rattle.run.specs.Run.{entering}
 use Rattle.tracing.specs.Input.{fileIn}
 
--- an execution's line: its index in four hex digits, then Y, Q and status in eight each, one space between
+-- an execution's line: its index in four hex digits, then Y, Q and status in eight each, one space between; the status as its word reads it
 unfoldable pub lineOf : ℕ → Shown → List ℕ
 lineOf index x =
     hexOf 4 index
     ++ space ∷ hexOf 8 (x .y)
     ++ space ∷ hexOf 8 (x .core .q)
-    ++ space ∷ hexOf 8 (asRead (x .core .status))
+    ++ space ∷ hexOf 8 (shownStatus x)
     ++ newline ∷ []
 
 -- its bytes

@@ -40,12 +40,10 @@ fn line(index: usize, shown: Shown) -> [u8; LINE]
     requires { ⌜ Good (shown .core .status) ⌝ }
     ensures { λ r. ⌜ r ≡ lineOf index shown ⌝ }
 {
-    let core = shown.core;
-    let machine = core.leave();
     let i = four(index);
     let y = text::hex8(shown.y);
-    let q = text::hex8(machine.q);
-    let s = text::hex8(machine.status);
+    let q = text::hex8(shown.core.q);
+    let s = text::hex8(shown.status());
     [
         i[0],
         i[1],

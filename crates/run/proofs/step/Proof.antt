@@ -16,7 +16,7 @@ returns c =
     let a = z .args in
     step-write _ (a .word) (state (a .file .now) (a .core)) _ (z .pre .0)
     (record { file = read-small (a .file .now) (λ r. c .before .before .before .before .before .before .before .before .before .before .slice-known .given r .fits); q = omega (arith, z .good .1 .1 .0); status = z .pre .1 })
-    (c .before .before .shown .ensures ∙ ap shownBy (c .before .before .before .operate .ensures ∙ ap (performOf (a .word .opcode)) (inputs-read (a .word) (a .file .now) (a .core)))) (c .if1 .taken)
+    (c .before .before .shown .ensures ∙ ap (shownBy (a .word .borrow)) (c .before .before .before .operate .ensures ∙ ap (performOf (a .word .opcode)) (inputs-read (a .word) (a .file .now) (a .core)))) (c .if1 .taken)
 
 returns-2 : tie.Need-returns-2
 returns-2 c =
@@ -24,7 +24,7 @@ returns-2 c =
     let a = z .args in
     step-keep _ (a .word) (state (a .file .now) (a .core)) _ (z .pre .0)
     (record { file = read-small (a .file .now) (λ r. c .before .before .before .before .before .before .before .before .before .before .slice-known .given r .fits); q = omega (arith, z .good .1 .1 .0); status = z .pre .1 })
-    (c .before .before .shown .ensures ∙ ap shownBy (c .before .before .before .operate .ensures ∙ ap (performOf (a .word .opcode)) (inputs-read (a .word) (a .file .now) (a .core)))) (c .if1 .left)
+    (c .before .before .shown .ensures ∙ ap (shownBy (a .word .borrow)) (c .before .before .before .operate .ensures ∙ ap (performOf (a .word .opcode)) (inputs-read (a .word) (a .file .now) (a .core)))) (c .if1 .left)
 
 pub step-spec : {M : Type 1} → statement M
 step-spec =

@@ -6,10 +6,11 @@ use Rattle.tracing.proofs.line.Tie as tie
 
 returns : tie.Need-returns
 returns c =
-    let m = c .before .before .before .before in
-    let a = m .before .before .args in
-    line-is (c .before .before .before .four .result) (c .before .before .hex8 .result) (c .before .hex82 .result) (c .hex83 .result) (a .index) (a .shown) _
-    (m .leave .ensures) (c .before .before .before .four .ensures) (c .before .before .hex8 .ensures) (c .before .hex82 .ensures) (c .hex83 .ensures)
+    let q = c .before .before in
+    let i = q .before .before in
+    let a = i .before .args in
+    line-is (i .four .result) (q .before .hex8 .result) (q .hex82 .result) (c .hex83 .result) (a .index) (a .shown) _
+    (c .before .status .ensures) (i .four .ensures) (q .before .hex8 .ensures) (q .hex82 .ensures) (c .hex83 .ensures)
 
 pub line-spec : {M : Type 1} → statement M
 line-spec =

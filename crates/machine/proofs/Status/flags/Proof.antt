@@ -10,11 +10,11 @@ use Rattle.machine.proofs.Status.flags.Statement.{statement}
 use Rattle.machine.proofs.Status.flags.Tie as tie
 
 abbrev made : ℕ → ℕ → ℕ → ℕ → ℕ
-made n v c z = bitOr (bitOr (bitXor (n * 0x2_c000) (v * 0x4_c000)) (c * 0x1_2000)) (z * 0x8_a000)
+made n v c z = bitOr (bitOr (bitXor (n * 0x2_c000) (v * 0x4_c000)) (c * 0x1_0000)) (z * 0x8_8000)
 
 abbrev Right : ℕ → ℕ → ℕ → ℕ → Type 0
 Right n v c z =
-    (made n v c z ≡ (max c z + xor n v * 2 + max (xor n v) z * 4) * 2 ^ 13 + c * 2 ^ 16 + n * 2 ^ 17 + v * 2 ^ 18 + z * 2 ^ 19) × (made n v c z < 2 ^ 20)
+    (made n v c z ≡ xor n v * 2 ^ 14 + max (xor n v) z * 2 ^ 15 + c * 2 ^ 16 + n * 2 ^ 17 + v * 2 ^ 18 + z * 2 ^ 19) × (made n v c z < 2 ^ 20)
 
 right : (n v c : ℕ) → n < 2 → v < 2 → c < 2 → (z : ℕ) → z < 2 → Right n v c z
 right =
