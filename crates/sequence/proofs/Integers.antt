@@ -117,6 +117,10 @@ sign-low n x h =
     let e : n ≡ 1 + (n - 1) = omega arith in
     ap (λ (k : ℕ). x % 2 ^ k / 2 ^ (n - 1) % 2) e ∙ ap (λ (v : ℕ). v % 2) (field x 1 (n - 1)) ∙ mod-mod (x / 2 ^ (n - 1)) 2
 
+-- and the signed value too
+pub signed-same : (n x y : ℕ) → 1 ≤ n → x % 2 ^ n ≡ y % 2 ^ n → signed n x ≡ signed n y
+signed-same n x y h e = ap₂ (λ (v s : ℕ). subℕ v (s * 2 ^ n)) e (sym (sign-low n x h) ∙ ap (signOf n) e ∙ sign-low n y h)
+
 -- a number of 2 n bits by its two halves: its sign bit is that of the high one
 pub signed-long : (n x y : ℕ) → 1 ≤ n → signedLong n (x % 2 ^ n) (y % 2 ^ n) ≡ subℕ (x % 2 ^ n * 2 ^ n + y % 2 ^ n) (signOf n x * 2 ^ n * 2 ^ n)
 signed-long n x y h = ap₂ subℕ whole-bits (ap₂ (λ (s p : ℕ). s * p) sign power ∙ sym (mul-assoc (signOf n x) (2 ^ n) (2 ^ n)))

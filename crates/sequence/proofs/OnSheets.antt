@@ -1,16 +1,20 @@
--- The sequences come out exact as they stand in a sheet: running the sheet gives the product, the quotient and remainder, the decimal result.
+-- The sequences come out exact as they stand in a sheet: running the sheet gives the product, the quotient and remainder, the decimal result, the
+-- comparison.
 use mathlib.Core.Path.{_≡_, sym, ap, _∙_, subst}
 use mathlib.Core.Logic.{_≢_}
-use mathlib.Core.List.{List, [], _∷_}
+use mathlib.Core.List.{List, [], _∷_, _++_}
 use Prim.Native.Nat.{ℕ, _≤_, _<_}
 use lib.ListN.{length, drop}
 use lib.Signed.{quotZ}
+use Rattle.bits.specs.Bits.{selected}
 use Rattle.machine.specs.declared.Machine.{Machine}
+use Rattle.machine.specs.Status.{carryMode, asRead}
 use Rattle.machine.specs.Inputs.{Sound}
 use Rattle.machine.proofs.Handed.{taken-good}
 use Rattle.reasons.specs.declared.Reason.the-variants.{Done}
 use Rattle.chip.specs.declared.Word.{Word}
 use Rattle.chip.specs.Lists.{State, execs}
+use Rattle.chip.proofs.Words.{execs-append}
 use Rattle.sheet.specs.Sheet.{executionsOf, WordReady}
 use Rattle.sheet.specs.declared.Given.the-variants.{Number}
 use Rattle.sheet.proofs.Positions.{All, all-take, all-drop}
@@ -23,11 +27,13 @@ use Rattle.sequence.specs.Signed.{Fits}
 use Rattle.sequence.specs.Sequences.{Idle, Registers, Different, Unread, bitsIn, wordsOf as listed, multiplyWords, divideWords, signedMultiplyWords, signedDivideWords, singleDivideWords}
 use Rattle.sequence.specs.Results.{register, signedIn, longDividend, TooLarge, Multiplied, Divided, SignedMultiplied, SignedDivided}
 use Rattle.sequence.specs.Decimal.{DecimalOperation, additions, subtractions, Side, Side.at-A, Side.at-B, Layout, calculation, correctionAt, decimalWords, sumWords, differenceWords, facing, Summed, TakenAway, SumExact, DifferenceExact, Each}
+use Rattle.sequence.specs.Compare.{unsignedAtMost, Compared, Compares, Picks}
 use Rattle.sequence.specs.OnSheets.{Stands, Accepted, handed, runOn, SumOnSheet, DifferenceOnSheet}
 use Rattle.sequence.proofs.Multiply.{multiply-exact, signed-multiply-exact}
 use Rattle.sequence.proofs.Divide.{divide-exact}
-use Rattle.sequence.proofs.SignedDivide.{signed-divide-exact}
+use Rattle.sequence.proofs.SignedDivide.{front, rear, signed-divide-exact}
 use Rattle.sequence.proofs.SingleDivide.{single-divide-exact}
+use Rattle.sequence.proofs.Compare.{word-compares, word-links}
 use Rattle.sequence.proofs.Decimal.{each, decimal-sums-exact, decimal-differences-exact}
 
 module _ (s file : List ℕ) (m : Machine) (start : ℕ) (call : Accepted s file m start) where
@@ -105,6 +111,43 @@ module _ (s file : List ℕ) (m : Machine) (start : ℕ) (call : Accepted s file
   sheet-divides-single w x r load sign idle free h1 h4 different stands hd ho large =
       subst (SignedDivided (bitsIn w) (signedIn (bitsIn w) x (entering file m)) r (entering file m)) (sym (run-leaves (singleDivideWords w x r load sign idle free) stands))
       (single-divide-exact w x r load sign idle free (entering file m) h1 h4 different (fit (singleDivideWords w x r load sign idle free) stands) sane hd ho large)
+
+  -- words, and then others: those before can be run, and those after on what they leave
+  module _ (ws vs : List Word) (stands : Stands s start (ws ++ vs)) where
+    abbrev t : State
+    t = execs ws (entering file m)
+
+    sane-there : Sane t
+    sane-there = execs-sane (length file) ws (entering file m) (front ws vs (fit (ws ++ vs) stands)) sane
+
+    fit-there : All (WordReady (length file)) vs
+    fit-there = rear ws vs (fit (ws ++ vs) stands)
+
+    leaves-then : handed (runOn s file m start (ws ++ vs)) ≡ execs vs t
+    leaves-then = run-leaves (ws ++ vs) stands ∙ execs-append ws vs (entering file m)
+
+    status-then : runOn s file m start (ws ++ vs) .answer .machine .status ≡ asRead carryMode (execs vs t .core .status)
+    status-then = ap (λ (e : Ended). e .answer .machine .status) (runs (ws ++ vs) stands) ∙ ap (λ (u : State). asRead carryMode (u .core .status)) (execs-append ws vs (entering file m))
+
+  -- COMPARE ON A SHEET. A run in an accepted sheet that ends with a SUB or SUBR in carry mode hands back a status whose bits 13, 14 and 15 compare the
+  -- operands, whatever words ran before.
+  pub sheet-compares : (ws : List Word) (w : Word) (a b : ℕ) → Stands s start (ws ++ (w ∷ [])) → w .borrow ≡ carryMode → Compares w (execs ws (entering file m)) a b
+      → Compared (selected (w .code)) a b (runOn s file m start (ws ++ (w ∷ [])) .answer .machine .status)
+  unfolding execs
+  sheet-compares ws w a b stands mode c = go (fit-there ws (w ∷ []) stands)
+    where
+      go : All (WordReady (length file)) (w ∷ []) → Compared (selected (w .code)) a b (runOn s file m start (ws ++ (w ∷ [])) .answer .machine .status)
+      go (more r rest) = rw (status-then ws (w ∷ []) stands, ← mode) (word-compares w _ r (sane-there ws (w ∷ []) stands) c)
+
+  -- BRANCH ON A SHEET. A run that ends with such a word in either mode, and EXTBIT-STAT of bit 13 in the same, leaves in L whether the first operand is less
+  -- than or equal to the second as unsigned numbers.
+  pub sheet-picks : (ws : List Word) (w v : Word) (a b : ℕ) → Stands s start (ws ++ (w ∷ v ∷ [])) → Compares w (execs ws (entering file m)) a b → Picks (w .borrow) v
+      → handed (runOn s file m start (ws ++ (w ∷ v ∷ []))) .core .status .l ≡ unsignedAtMost (selected (w .code)) a b
+  unfolding execs
+  sheet-picks ws w v a b stands c p = go (fit-there ws (w ∷ v ∷ []) stands)
+    where
+      go : All (WordReady (length file)) (w ∷ v ∷ []) → handed (runOn s file m start (ws ++ (w ∷ v ∷ []))) .core .status .l ≡ unsignedAtMost (selected (w .code)) a b
+      go (more r rest) = ap (λ (u : State). u .core .status .l) (leaves-then ws (w ∷ v ∷ []) stands) ∙ word-links w _ r (sane-there ws (w ∷ v ∷ []) stands) v c p
 
   -- the two words of a decimal operation stand soundly at the chip, on registers of the file
   module _ (o : DecimalOperation) (correction : ℕ) (d : Layout) (stands : Stands s start (decimalWords (o .opcode) correction d)) where

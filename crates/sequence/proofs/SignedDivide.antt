@@ -26,11 +26,11 @@ use Rattle.sequence.proofs.SignedResult.{Tailed, tail, tail-is, tailed,
 
 -- ---- the words of it
 -- what holds of two lists together holds of each
-front : {P : Word → Type 0} (xs ys : List Word) → All P (xs ++ ys) → All P xs
+pub front : {P : Word → Type 0} (xs ys : List Word) → All P (xs ++ ys) → All P xs
 front [] ys a = none
 front (x ∷ xs) ys (more p a) = more p (front xs ys a)
 
-rear : {P : Word → Type 0} (xs ys : List Word) → All P (xs ++ ys) → All P ys
+pub rear : {P : Word → Type 0} (xs ys : List Word) → All P (xs ++ ys) → All P ys
 rear [] ys a = a
 rear (x ∷ xs) ys (more p a) = rear xs ys a
 

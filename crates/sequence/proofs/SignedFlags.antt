@@ -11,7 +11,7 @@ use Rattle.bits.specs.Bits.{selected, choose, flag, xor, bitOf, signOf, zeroOf,
 use Rattle.bits.proofs.BitByBit.{by-flag}
 use Rattle.bits.proofs.Bounds.{flag-lt, xor-lt, zero-flag}
 use Rattle.machine.specs.declared.Status.{Status}
-use Rattle.machine.specs.Status.{SIGNED-LE, workedOut, gathered, asRead, loaded, Good, withN, withV, withZ, withL}
+use Rattle.machine.specs.Status.{SIGNED-LE, workedOut, gathered, carryMode, asRead, loaded, Good, withN, withV, withZ, withL}
 use Rattle.machine.proofs.Kept.{good-v, good-z}
 use Rattle.machine.proofs.Round.{worked-out-lt, fields-of}
 use Rattle.shifts.specs.SingleBit.{downshifted, down}
@@ -29,13 +29,13 @@ use Rattle.sequence.proofs.SignedCorrections.{signFor, specialZ}
 
 -- ---- the status register
 -- RSTBIT-STAT of bit 18 sets V to 0
-v-reset : (s : Status) → Good s → loaded (putBit 18 0 (asRead s)) ≡ withV 0 s
+v-reset : (s : Status) → Good s → loaded (putBit 18 0 (asRead carryMode s)) ≡ withV 0 s
 unfolding asRead putBit
 v-reset s g =
-    let d : workedOut s < 8 = worked-out-lt (s .c) (s .n) (s .v) (s .z) (g .c) (g .n) (g .v) (g .z) in
-    ap loaded (cut (s .position + s .width * 2 ^ 8 + workedOut s * 2 ^ 13 + s .c * 2 ^ 16 + s .n * 2 ^ 17) (s .v) (s .z + s .l * 2 + s .m * 2 ^ 2 + s .s * 2 ^ 3 + gathered 8 (s .nibbles) * 2 ^ 5) _
+    let d : workedOut carryMode s < 8 = worked-out-lt carryMode s g in
+    ap loaded (cut (s .position + s .width * 2 ^ 8 + workedOut carryMode s * 2 ^ 13 + s .c * 2 ^ 16 + s .n * 2 ^ 17) (s .v) (s .z + s .l * 2 + s .m * 2 ^ 2 + s .s * 2 ^ 3 + gathered 8 (s .nibbles) * 2 ^ 5) _
     (omega (arith, g .position, g .width, g .c, g .n)) (g .v) (omega arith) ∙ omega arith)
-    ∙ fields-of (s .position) (s .width) (workedOut s) (s .c) (s .n) 0 (s .z) (s .l) (s .m) (s .s) (gathered 8 (s .nibbles)) (g .position) (g .width) d (g .c) (g .n) (omega arith) (g .z) (g .l) (g .m) (g .s)
+    ∙ fields-of (s .position) (s .width) (workedOut carryMode s) (s .c) (s .n) 0 (s .z) (s .l) (s .m) (s .s) (gathered 8 (s .nibbles)) (g .position) (g .width) d (g .c) (g .n) (omega arith) (g .z) (g .l) (g .m) (g .s)
     ∙ ap (λ (k : ℕ). record { position = s .position; width = s .width; c = s .c; n = s .n; v = 0; z = s .z; l = s .l; m = s .m; s = s .s; nibbles = k }) (g .nibbles)
   where
     cut : (lo f hi x : ℕ) → lo < 2 ^ 18 → f < 2 → x ≡ lo + f * 2 ^ 18 + hi * 2 ^ 19 → x / 2 ^ 19 * 2 ^ 19 + 0 * 2 ^ 18 + x % 2 ^ 18 ≡ lo + hi * 2 ^ 19
@@ -87,8 +87,8 @@ module _ (code : ℕ) (r : Registers) (free : ℕ → Unread) (u : State) (good 
   good₁ : Good s₁
   good₁ = good-z _ s₀ (zero-lt n _ (s₀ .s) (good .s)) good
 
-  link-is : xor (bitOf 15 (asRead (withV 0 s₁))) 0 ≡ linked n (at (r .O)) (at (r .R)) q s₀
-  link-is = ap (λ (v : ℕ). xor v 0) (relational (withV 0 s₁) (good-v 0 s₁ (omega arith) good₁) .2) ∙ xor-none _ (flags _ _ (xor-lt (s₀ .n) 0) (zero-lt n _ (s₀ .s) (good .s)))
+  link-is : xor (bitOf 15 (asRead carryMode (withV 0 s₁))) 0 ≡ linked n (at (r .O)) (at (r .R)) q s₀
+  link-is = ap (λ (v : ℕ). xor v 0) (relational carryMode (withV 0 s₁) (good-v 0 s₁ (omega arith) good₁) .2) ∙ xor-none _ (flags _ _ (xor-lt (s₀ .n) 0) (zero-lt n _ (s₀ .s) (good .s)))
 
   abbrev last₂ : State → State
   last₂ t = stepOf (looking code (r .D) (r .R) 0x5a (free 4 .idle)) (stepOf (looking code (free 3 .a) (r .R) 0x29 (free 3 .idle)) t)
