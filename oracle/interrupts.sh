@@ -1,8 +1,7 @@
 #!/bin/sh
 # Random main lists, handlers and schedules, legal ones and every kind of fault: the reference program's answers beside the proved program's.
 # interrupts.sh COUNT tries COUNT of them on crates/interrupts, which has to be built (rt check interrupts); 20,000 where no count is given.
-# interrupts.sh --store writes the gate's few: of each reason and mark the first four, and the first three with about 1,024 entries;
-# interrupts.sh --same compares them with what is committed.
+# interrupts.sh --store writes the gate's few (`oracle interrupt-cases`), interrupts.sh --same compares them with what is committed.
 # The lines are those of `oracle interrupts`, the lists filled up with `-` to one width: 256 characters a sheet, 4,120 the schedule, 128 the
 # registers.
 set -eu
@@ -22,9 +21,7 @@ widen() {
 }
 
 few() {
-    "$program" interrupts 20000 | awk '
-        length($3) >= 4088 && long < 3 { long++; print; next }
-        seen[$7 $9] < 4 { seen[$7 $9]++; print }' | widen
+    "$program" interrupt-cases | widen
 }
 
 case ${1:-20000} in

@@ -1,7 +1,7 @@
 //! Cases of the lister and the reader, many in one file, and the line that
 //! answers each; the trial of the planted faults.
 
-use crate::faults::{Faults, IN_LISTINGS};
+use crate::faults::{try_each, Faults, IN_LISTINGS};
 use crate::listing::{list, LISTING_ROOM};
 use crate::listing_cases::{known, Known};
 use crate::reader::{read, SHEET_ROOM};
@@ -132,25 +132,14 @@ pub fn answers(cases: &[Case]) -> String {
     cases.iter().map(answer).collect()
 }
 
-/// Plants each fault of the listing in turn and tells how many answers change
-/// of those cases of the gate that stand in this program. True where every
-/// fault is noticed.
+/// The faults of the listing, over those cases of the gate that stand in this
+/// program.
 pub fn try_faults() -> bool {
     let cases = known();
     let answers = |faults: &Faults| -> Vec<String> {
         let answer = |known: &Known| known.case.answer(faults);
         cases.iter().map(answer).collect()
     };
-    let right = answers(&Faults::none());
-    let mut unnoticed = 0;
-    for &(fault, what) in IN_LISTINGS {
-        let wrong = answers(&Faults::plant(fault));
-        let changed: Vec<usize> = (0..cases.len()).filter(|&i| right[i] != wrong[i]).collect();
-        unnoticed += usize::from(changed.is_empty());
-        let first = changed.first().map_or("none", |&i| &cases[i].what);
-        println!("{what}: {} answers (first: {first})", changed.len());
-    }
-    let (planted, asked) = (IN_LISTINGS.len(), cases.len());
-    println!("{planted} faults planted over {asked} cases of listings, {unnoticed} not noticed");
-    unnoticed == 0
+    let name = |i: usize| cases[i].what.clone();
+    try_each(IN_LISTINGS, "cases of listings", answers, name)
 }

@@ -2,11 +2,14 @@
 //! the data other programs are compared with.
 
 use crate::draw::{next, pattern, PATTERNS};
-use crate::interrupt::run_interrupted;
+use crate::faults::{try_each, Faults, IN_INTERRUPTS, IN_TRACES};
+use crate::interrupt::{run_interrupted_with, Interrupted, MOST_ENTRIES};
 use crate::pages::{has_page, number_of};
 use crate::run::Machine;
-use crate::sheet::{build, Word, HEADER, WORD};
-use crate::trace::trace;
+use crate::sheet::{build, Word, DONE, HEADER, WORD};
+use crate::trace::{trace, trace_with};
+use crate::word::reason;
+use std::collections::BTreeMap;
 use std::fmt::Write;
 use std::{fs, io, path::Path};
 
@@ -184,6 +187,17 @@ pub fn longest_input() -> Vec<u8> {
     input
 }
 
+/// The faults of the trace's text, over the lines of the longest one.
+pub fn try_trace_faults() -> bool {
+    let input = longest_input();
+    let lines = |faults: &Faults| -> Vec<String> {
+        let text = trace_with(&input, faults);
+        text.lines().map(String::from).collect()
+    };
+    let name = |i: usize| format!("word {i:04X}");
+    try_each(IN_TRACES, "lines of the longest trace", lines, name)
+}
+
 /// A trace input: a random sheet and its registers.
 pub fn random_trace_input(random: &mut Random) -> Vec<u8> {
     let count = 1 + random.below(64);
@@ -277,29 +291,81 @@ fn long_schedule(random: &mut Random) -> usize {
     }
 }
 
-/// COUNT interrupt cases with their answers, a line each; half are spoilt.
-pub fn interrupt_text(count: usize) -> String {
+/// COUNT interrupt cases; every other one is spoilt.
+fn interrupt_cases(count: usize) -> impl Iterator<Item = InterruptCase> {
     let mut random = Random::new(2);
-    let mut text = String::new();
-    for i in 0..count {
+    (0..count).map(move |i| {
         let mut case = random_interrupt(&mut random);
         if i % 2 == 1 {
             spoil(&mut random, &mut case);
         }
-        text.push_str(&interrupt_line(&case));
-    }
-    text
+        case
+    })
 }
 
-fn interrupt_line(case: &InterruptCase) -> String {
-    let mut file = case.file.clone();
-    let ran = run_interrupted(
-        &case.main,
-        &case.handler,
-        &case.schedule,
-        &mut file,
-        case.machine,
-    );
+/// COUNT interrupt cases with their answers, a line each.
+pub fn interrupt_text(count: usize) -> String {
+    let line = |case| interrupt_line(&case, &Faults::none());
+    interrupt_cases(count).map(line).collect()
+}
+
+/// The gate's interrupt cases, the first of 20,000: twelve that are done, four
+/// more that are done without a word, four of each refusal and mark; and with
+/// about the most entries two more that are done and two that are refused.
+fn gate_interrupts() -> Vec<InterruptCase> {
+    let mut taken = BTreeMap::new();
+    let few = |case: &InterruptCase| {
+        let (ran, _) = case.run(&Faults::none());
+        let long = case.schedule.len() + 1 >= MOST_ENTRIES;
+        let empty = ran.verdict == DONE;
+        let most = match ran.verdict.reason {
+            _ if long => 2,
+            reason::DONE if !empty => 12,
+            _ => 4,
+        };
+        let kind = (long, empty, ran.verdict.reason, ran.mark);
+        let count = taken.entry(kind).or_insert(0);
+        *count += 1;
+        *count <= most
+    };
+    interrupt_cases(20_000).filter(few).collect()
+}
+
+/// Their lines.
+pub fn gate_interrupt_text() -> String {
+    let line = |case: &InterruptCase| interrupt_line(case, &Faults::none());
+    gate_interrupts().iter().map(line).collect()
+}
+
+/// The faults of the interrupted run, over the gate's cases.
+pub fn try_interrupt_faults() -> bool {
+    let cases = gate_interrupts();
+    let lines = |faults: &Faults| -> Vec<String> {
+        let line = |case: &InterruptCase| interrupt_line(case, faults);
+        cases.iter().map(line).collect()
+    };
+    let name = |i: usize| format!("line {}", i + 1);
+    try_each(IN_INTERRUPTS, "interrupted runs", lines, name)
+}
+
+impl InterruptCase {
+    /// What the run gives, and the file afterwards.
+    pub fn run(&self, faults: &Faults) -> (Interrupted, Vec<u32>) {
+        let mut file = self.file.clone();
+        let ran = run_interrupted_with(
+            &self.main,
+            &self.handler,
+            &self.schedule,
+            &mut file,
+            self.machine,
+            faults,
+        );
+        (ran, file)
+    }
+}
+
+fn interrupt_line(case: &InterruptCase, faults: &Faults) -> String {
+    let (ran, file) = case.run(faults);
     let mut line = String::new();
     let parts = [
         hex(&case.main, 2),

@@ -2,7 +2,7 @@
 
 use crate::bits::{all_zero, splice, Bits};
 use crate::faults::{Fault, Faults};
-use crate::status::Status;
+use crate::status::{Mode, Status};
 
 /// The two data inputs of the chip, where an operation can use either.
 #[derive(Clone, Copy)]
@@ -47,6 +47,13 @@ impl Cycle<'_> {
             Port::A => self.a,
             Port::B => self.b,
         }
+    }
+
+    /// The status register as this word reads it: by its own borrow switch,
+    /// or with a fault of the place that asks in carry mode always.
+    pub fn read(&self, status: &Status, carry_always: Fault) -> Bits {
+        let borrow = self.borrow && !self.has(carry_always);
+        status.read(Mode::of(borrow), self.faults)
     }
 
     /// How many low bits the byte code selects (table 3).

@@ -233,7 +233,7 @@ fn report(what: &str, changed: &[Changed]) {
         .map(|line| format!("{:02X}", line.opcode))
         .collect();
     println!(
-        "{what}: {} lines{alone} (first {first}): {}",
+        "{what}: {} digest lines{alone} (first: {first}): {}",
         changed.len(),
         numbers.join(" ")
     );

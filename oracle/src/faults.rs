@@ -1,6 +1,6 @@
-//! Known faults that can be planted in the model, to show that the digests
-//! and the cases of listings notice them. The model asks `has` at the place
-//! concerned.
+//! Known faults that can be planted in the model, to show that the gate's data
+//! notice them: digests, the longest trace, interrupted runs and cases of
+//! listings. The model asks `has` at the place concerned.
 
 use std::cell::Cell;
 
@@ -74,11 +74,19 @@ IN_WORDS {
     PriorKeepsHighPosition: "PRIOR keeps status 7 to 5",
     SignLooksAtB: "SIGN looks at B",
     LdstatYMasked: "LDSTAT: Y without bits 13, 14, 15, 23",
+    LdstatRestInCarryMode: "LDSTAT: the unselected bytes of Y in carry mode whatever borrow says",
+    LdstatTakesBit13: "LDSTAT: bit 13 loaded, into C",
+    PassStatInCarryMode: "PASS-STAT in carry mode whatever borrow says",
+    ExtbitStatInCarryMode: "EXTBIT-STAT in carry mode whatever borrow says",
+    PutStatInCarryMode: "SETBIT-STAT, RSTBIT-STAT: Y in carry mode whatever borrow says",
+    Bit13AlwaysCOrZ: "bit 13 is C or Z whatever borrow says",
+    Bit13ModesExchanged: "bit 13: carry mode and borrow mode exchanged",
     Bits13To15Kept: "bits 13 to 15 kept, not worked out",
     Bit23Kept: "bit 23 kept",
     ParityOdd: "odd parity",
     RefusalsSwapped: "Inputs refused before Opcode",
     RefusalWorksOutStatus: "a refusal works out the status bits",
+    AnswerInCarryMode: "a single word's answer in carry mode whatever borrow says",
     WriteIgnored: "a run stores Y whatever write says",
     StoredToB: "a run stores Y in B's register",
     RegisterOfFiveBits: "a run takes five bits of a register field",
@@ -86,7 +94,21 @@ IN_WORDS {
     StartAtEndRefused: "a start at the sheet's end refused",
     AllowanceIgnored: "the allowance of a run ignored",
     RunOfNoneKeepsStatus: "a run of no words keeps bits 13 to 15 and 23",
+    RunOfNoneInBorrowMode: "a run of no words hands back borrow mode",
+    RunByLastWord: "a run hands back the mode of its last word",
     RefusedRunWorksOutStatus: "a refused run works out the status bits",
+}
+
+/// Faults of the trace program's text, which the longest trace notices.
+IN_TRACES {
+    TraceInCarryMode: "a trace's line in carry mode whatever borrow says",
+}
+
+/// Faults of the interrupted run, which the gate's interrupted runs notice.
+IN_INTERRUPTS {
+    InterruptedOfNoneInBorrowMode: "an interrupted run of no words hands back borrow mode",
+    InterruptedByLastWord: "an interrupted run hands back the mode of its last word",
+    RefusedInterruptedWorksOutStatus: "a refused interrupted run works out the status bits",
 }
 
 /// Faults of the lister and the reader, which the cases of listings notice.
@@ -122,6 +144,10 @@ IN_LISTINGS {
 }
 }
 
+/// The record of what was asked about has a bit for each.
+const _: () =
+    assert!(IN_WORDS.len() + IN_TRACES.len() + IN_INTERRUPTS.len() + IN_LISTINGS.len() <= 128);
+
 /// At most one planted fault, and a record of which faults were asked about.
 pub struct Faults {
     planted: Option<Fault>,
@@ -156,4 +182,27 @@ impl Faults {
     pub fn was_asked(&self, fault: Fault) -> bool {
         self.asked.get() & 1 << fault as u32 != 0
     }
+}
+
+/// Plants each fault of a table in turn and tells how many answers of the
+/// witness change, and the name of the first. True where every fault is noticed.
+pub fn try_each(
+    table: &[(Fault, &str)],
+    witness: &str,
+    answers: impl Fn(&Faults) -> Vec<String>,
+    name: impl Fn(usize) -> String,
+) -> bool {
+    let right = answers(&Faults::none());
+    let mut unnoticed = 0;
+    for &(fault, what) in table {
+        let wrong = answers(&Faults::plant(fault));
+        let changed = |&i: &usize| wrong.get(i) != Some(&right[i]);
+        let changed: Vec<usize> = (0..right.len()).filter(changed).collect();
+        unnoticed += usize::from(changed.is_empty());
+        let first = changed.first().map_or("none".to_string(), |&i| name(i));
+        println!("{what}: {} {witness} (first: {first})", changed.len());
+    }
+    let (planted, asked) = (table.len(), right.len());
+    println!("{planted} faults planted over {asked} {witness}, {unnoticed} not noticed");
+    unnoticed == 0
 }

@@ -122,7 +122,7 @@ pub fn extract_bit(cycle: &Cycle, port: Port) -> Outcome {
 /// EXTBIT-STAT: "no side-effects on any bits of the status register other
 /// than L"; the page's line on Z gives way to that.
 pub fn extract_status_bit(cycle: &Cycle) -> Outcome {
-    let status = cycle.status.read(cycle.faults);
+    let status = cycle.read(&cycle.status, Fault::ExtbitStatInCarryMode);
     let mut out = extracted_bit(cycle, &status);
     if cycle.has(Fault::ExtbitStatTouchesZ) {
         out.status.z = !out.y[0];
@@ -153,10 +153,11 @@ pub fn put_bit(cycle: &Cycle, port: Port, value: bool) -> Outcome {
 /// SETBIT-STAT, RSTBIT-STAT: bits 13, 14, 15 and 23 are read-only; "the new
 /// value of the status register also appears on the Y bus".
 pub fn put_status_bit(cycle: &Cycle, value: bool) -> Outcome {
-    let mut word = cycle.status.read(cycle.faults);
+    let read = |status: &Status| cycle.read(status, Fault::PutStatInCarryMode);
+    let mut word = read(&cycle.status);
     word[low_five(&position(cycle))] = value;
     let status = Status::load(&word);
-    let mut out = cycle.pass(status.read(cycle.faults));
+    let mut out = cycle.pass(read(&status));
     out.status = status;
     out
 }

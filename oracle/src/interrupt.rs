@@ -1,9 +1,10 @@
 //! The interrupted run: a main sheet, one handler, a schedule of boundaries.
 
-use crate::faults::Faults;
+use crate::faults::{Fault, Faults};
 use crate::handler::check_form;
 use crate::run::{settled, step, Machine};
 use crate::sheet::{check, refuse, word_at, Header, Verdict};
+use crate::status::Mode;
 use crate::word::reason;
 
 /// The most entries a schedule may have.
@@ -30,27 +31,54 @@ pub fn run_interrupted(
     file: &mut [u32],
     machine: Machine,
 ) -> Interrupted {
-    match check_all(main, handler, schedule, file.len()) {
-        Ok((main_header, handler_header)) => {
-            let order = order(schedule, main_header.count, handler_header.count);
-            let mut machine = settled(machine);
-            for &(from_handler, i) in &order {
-                let sheet = if from_handler { handler } else { main };
-                step(&word_at(sheet, i), file, &mut machine, &Faults::none());
-            }
-            let verdict = refuse(reason::DONE, order.len());
-            Interrupted {
-                verdict,
-                mark: NEITHER,
-                machine,
-            }
-        }
-        Err((verdict, mark)) => Interrupted {
-            verdict,
-            mark,
-            machine,
-        },
+    let faults = Faults::none();
+    run_interrupted_with(main, handler, schedule, file, machine, &faults)
+}
+
+/// The same with a fault that may be planted.
+pub fn run_interrupted_with(
+    main: &[u8],
+    handler: &[u8],
+    schedule: &[u16],
+    file: &mut [u32],
+    mut machine: Machine,
+    faults: &Faults,
+) -> Interrupted {
+    let (main_header, handler_header) = match check_all(main, handler, schedule, file.len()) {
+        Ok(headers) => headers,
+        Err((verdict, mark)) => return refused(verdict, mark, machine, faults),
+    };
+    let order = order(schedule, main_header.count, handler_header.count);
+    for &(from_handler, i) in &order {
+        let sheet = if from_handler { handler } else { main };
+        step(&word_at(sheet, i), file, &mut machine, faults);
     }
+    Interrupted {
+        verdict: refuse(reason::DONE, order.len()),
+        mark: NEITHER,
+        machine: handed_back(machine, order.len(), faults),
+    }
+}
+
+fn refused(verdict: Verdict, mark: u8, machine: Machine, faults: &Faults) -> Interrupted {
+    let machine = match faults.has(Fault::RefusedInterruptedWorksOutStatus) {
+        true => settled(machine, Mode::Carry, faults),
+        false => machine,
+    };
+    Interrupted {
+        verdict,
+        mark,
+        machine,
+    }
+}
+
+/// In carry mode, as a run hands it back.
+fn handed_back(machine: Machine, words: usize, faults: &Faults) -> Machine {
+    if words != 0 && faults.has(Fault::InterruptedByLastWord) {
+        return machine;
+    }
+    let borrow = words == 0 && faults.has(Fault::InterruptedOfNoneInBorrowMode);
+    settled(machine, Mode::of(borrow), faults)
 }
 
 /// Every word in the order it runs: is it the handler's, and its number. An

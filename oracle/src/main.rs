@@ -39,7 +39,8 @@ use std::path::Path;
 use std::process::ExitCode;
 
 const USAGE: &str = "usage: oracle selftest | digest | vectors | faults | trace
-       oracle trace-inputs DIR COUNT | longest | interrupts COUNT
+       oracle trace-inputs DIR COUNT | longest
+       oracle interrupts COUNT | interrupt-cases
        oracle pairs | pairs-sheets
        oracle list | assemble | listing-cases [FILE...] | listing-answers
        oracle random-texts COUNT | case NUMBER";
@@ -56,6 +57,7 @@ fn main() -> ExitCode {
         ["trace-inputs", folder, count] => write_inputs(folder, count),
         ["longest"] => write(&cases::longest_input()),
         ["interrupts", count] => print(&cases::interrupt_text(number(count))),
+        ["interrupt-cases"] => print(&cases::gate_interrupt_text()),
         ["pairs"] => print(&pairs::pairs_text()),
         ["pairs-sheets"] => write(&pairs::pairs_sheets()),
         ["list"] => list(),
@@ -97,8 +99,10 @@ fn input() -> io::Result<Vec<u8>> {
 
 fn try_faults() -> bool {
     let in_words = digest::try_faults();
+    let in_traces = cases::try_trace_faults();
+    let in_interrupts = cases::try_interrupt_faults();
     let in_listings = bundle::try_faults();
-    in_words && in_listings
+    in_words && in_traces && in_interrupts && in_listings
 }
 
 fn trace_input() -> io::Result<bool> {

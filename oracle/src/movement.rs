@@ -24,7 +24,7 @@ pub fn sign_extend(cycle: &Cycle, port: Port) -> Outcome {
 
 /// PASS-STAT: unselected bytes from B, nothing changed.
 pub fn pass_stat(cycle: &Cycle) -> Outcome {
-    let status = cycle.status.read(cycle.faults);
+    let status = cycle.read(&cycle.status, Fault::PassStatInCarryMode);
     cycle.pass(cycle.merge_b(&status))
 }
 
@@ -53,14 +53,22 @@ pub fn merge(cycle: &Cycle, port: Port) -> Outcome {
 /// LDSTAT-A, LDSTAT-B: the operand's selected bytes go to Y as they are and
 /// into the register, where bits 13, 14, 15 and 23 cannot be written (note 1).
 pub fn load_status(cycle: &Cycle, port: Port) -> Outcome {
-    let old = cycle.status.read(cycle.faults);
+    let old = cycle.read(&cycle.status, Fault::LdstatRestInCarryMode);
     let y = cycle.merge(&cycle.port(port), &old);
     let mut out = cycle.pass(y);
     out.status = Status::load(&y);
+    if cycle.has(Fault::LdstatTakesBit13) && cycle.selected() > 13 {
+        out.status.c = c_by_bit_13(cycle, &y);
+    }
     if cycle.has(Fault::LdstatYMasked) {
         out.y = without_read_only(&y);
     }
     out
+}
+
+/// The C with which bit 13 would read as loaded, Z apart (a planted fault's C).
+fn c_by_bit_13(cycle: &Cycle, loaded: &Bits) -> bool {
+    loaded[13] == cycle.borrow
 }
 
 /// The word with the four read-only bits cleared (a planted fault's Y).

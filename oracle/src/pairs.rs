@@ -7,6 +7,7 @@ use crate::faults::Faults;
 use crate::lists::*;
 use crate::run::{settled, step, Machine};
 use crate::sheet::{check, word_at, Word};
+use crate::status::Mode;
 use std::fmt::Write;
 
 const BITS: u32 = 8;
@@ -145,7 +146,7 @@ impl Trial {
     fn run(&self, case: Case) -> Left {
         let faults = Faults::none();
         let mut file = case.file();
-        let mut machine = settled(case.machine());
+        let mut machine = case.machine();
         let first = match self.kind {
             Kind::DivideLong => SDIVFIRST_AT,
             _ => 0,
@@ -153,6 +154,7 @@ impl Trial {
         for word in &self.words[first..] {
             step(word, &mut file, &mut machine, &faults);
         }
+        machine = settled(machine, Mode::Carry, &faults);
         Left { machine, file }
     }
 

@@ -2,6 +2,7 @@
 
 use crate::faults::{Fault, Faults};
 use crate::sheet::{check_with, word_at, Verdict, Word};
+use crate::status::Mode;
 use crate::word::{reason, single, worked_out, Answer, Inputs};
 
 /// Q and the status register; a fresh machine has both at zero.
@@ -18,7 +19,8 @@ pub struct Ran {
     pub machine: Machine,
 }
 
-/// Runs one word: reads A and B from the file, stores Y where write is 1.
+/// Runs one word: reads A and B from the file, stores Y where write is 1. The
+/// status is left as the word reads it, by its own borrow switch.
 pub fn step(word: &Word, file: &mut [u32], machine: &mut Machine, faults: &Faults) -> Answer {
     let register = |field: u8| match faults.has(Fault::RegisterOfFiveBits) {
         true => usize::from(field % 32),
@@ -66,7 +68,7 @@ pub fn run(
 pub fn run_with(
     sheet: &[u8],
     file: &mut [u32],
-    machine: Machine,
+    mut machine: Machine,
     start: usize,
     allowance: usize,
     faults: &Faults,
@@ -79,7 +81,6 @@ pub fn run_with(
     if faults.has(Fault::AllowanceIgnored) {
         words = header.count - start;
     }
-    let mut machine = begun(machine, words, faults);
     for i in start..start + words {
         step(&word_at(sheet, i), file, &mut machine, faults);
     }
@@ -87,29 +88,36 @@ pub fn run_with(
         reason: reason::DONE,
         place: words,
     };
+    let machine = handed_back(machine, words, faults);
     Ran { verdict, machine }
 }
 
 fn refused(verdict: Verdict, machine: Machine, faults: &Faults) -> Ran {
     let machine = match faults.has(Fault::RefusedRunWorksOutStatus) {
-        true => settled(machine),
+        true => settled(machine, Mode::Carry, faults),
         false => machine,
     };
     Ran { verdict, machine }
 }
 
-fn begun(machine: Machine, words: usize, faults: &Faults) -> Machine {
-    if faults.has(Fault::RunOfNoneKeepsStatus) && words == 0 {
+/// An accepted run hands the status back in carry mode, whatever the switch of
+/// its last word, and even where no word runs.
+fn handed_back(machine: Machine, words: usize, faults: &Faults) -> Machine {
+    let as_left = match words {
+        0 => faults.has(Fault::RunOfNoneKeepsStatus),
+        _ => faults.has(Fault::RunByLastWord),
+    };
+    if as_left {
         return machine;
     }
-    settled(machine)
+    let borrow = words == 0 && faults.has(Fault::RunOfNoneInBorrowMode);
+    settled(machine, Mode::of(borrow), faults)
 }
 
-/// An accepted call hands back bits 13, 14, 15 and 23 as worked out, even
-/// where no word runs.
-pub fn settled(machine: Machine) -> Machine {
+/// The machine with bits 13, 14, 15 and 23 of its status worked out.
+pub fn settled(machine: Machine, mode: Mode, faults: &Faults) -> Machine {
     Machine {
         q: machine.q,
-        status: worked_out(machine.status),
+        status: worked_out(machine.status, mode, faults),
     }
 }

@@ -3,6 +3,35 @@
 use crate::bits::{Bits, ZEROS};
 use crate::faults::{Fault, Faults};
 
+/// In which sense bit 13, UNSIGNED LE, is read.
+#[derive(Clone, Copy)]
+pub enum Mode {
+    /// C set by a subtraction says that nothing was borrowed.
+    Carry,
+    /// C set by a subtraction says that something was.
+    Borrow,
+}
+
+impl Mode {
+    /// The mode that a word's borrow switch asks for.
+    pub fn of(borrow: bool) -> Mode {
+        match borrow {
+            true => Mode::Borrow,
+            false => Mode::Carry,
+        }
+    }
+
+    /// The mode, or another one that a fault puts for it.
+    fn planted(self, faults: &Faults) -> Mode {
+        match self {
+            Mode::Carry if faults.has(Fault::Bit13AlwaysCOrZ) => Mode::Borrow,
+            Mode::Carry if faults.has(Fault::Bit13ModesExchanged) => Mode::Borrow,
+            Mode::Borrow if faults.has(Fault::Bit13ModesExchanged) => Mode::Carry,
+            mode => mode,
+        }
+    }
+}
+
 /// The stored bits. Bits 13, 14, 15 and 23 are not stored: they are worked
 /// out each time the register is read.
 #[derive(Clone, Copy)]
@@ -49,12 +78,18 @@ impl Status {
         }
     }
 
-    /// The whole register as it is read: 13 is C or Z, 14 is N xor V, 15 is
-    /// (N xor V) or Z, 23 is always 0. The one place where these are made.
-    pub fn read(&self, faults: &Faults) -> Bits {
+    /// The whole register as it is read: 13 is C or Z in borrow mode and (not
+    /// C) or Z in carry mode (EXTBIT-STAT note 2; document 02, request 3), 14 is
+    /// N xor V, 15 is (N xor V) or Z, 23 is always 0. The one place where these
+    /// are made.
+    pub fn read(&self, mode: Mode, faults: &Faults) -> Bits {
         let mut word = self.stored();
+        let below = match mode.planted(faults) {
+            Mode::Borrow => self.c,
+            Mode::Carry => !self.c,
+        };
         let less = self.n ^ self.v;
-        word[13] = self.c | self.z;
+        word[13] = below | self.z;
         word[14] = less;
         word[15] = less | self.z;
         if faults.has(Fault::Bits13To15Kept) {

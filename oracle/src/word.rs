@@ -1,10 +1,10 @@
 //! The single word: inputs, refusals, answer.
 
 use crate::bits::{from_number, to_number, Bits};
-use crate::cycle::{Cycle, Outcome};
+use crate::cycle::Cycle;
 use crate::faults::{Fault, Faults};
 use crate::pages::{has_page, perform};
-use crate::status::Status;
+use crate::status::{Mode, Status};
 
 /// The numbers of document 01's table of reasons, and those that document 02's
 /// second request adds.
@@ -94,7 +94,7 @@ pub fn out_of_range(inputs: &Inputs) -> bool {
 fn refused(inputs: &Inputs, reason: u8, faults: &Faults) -> Answer {
     let mut status = inputs.status;
     if faults.has(Fault::RefusalWorksOutStatus) {
-        status = worked_out(status);
+        status = worked_out(status, Mode::of(inputs.borrow == 1), faults);
     }
     Answer {
         reason,
@@ -106,20 +106,23 @@ fn refused(inputs: &Inputs, reason: u8, faults: &Faults) -> Answer {
     }
 }
 
+/// The answer's status is read as the word itself reads it.
 fn accepted(inputs: &Inputs, faults: &Faults) -> Answer {
-    let out = run_page(inputs, faults);
+    let cycle = cycle_of(inputs, faults);
+    let out = perform(inputs.opcode, &cycle);
+    let status = cycle.read(&out.status, Fault::AnswerInCarryMode);
     Answer {
         reason: reason::DONE,
         place: 0,
         y: to_number(&out.y),
         parity: parity(&out.y, faults),
         q: to_number(&out.q),
-        status: to_number(&out.status.read(faults)),
+        status: to_number(&status),
     }
 }
 
-fn run_page(inputs: &Inputs, faults: &Faults) -> Outcome {
-    let cycle = Cycle {
+fn cycle_of<'f>(inputs: &Inputs, faults: &'f Faults) -> Cycle<'f> {
+    Cycle {
         a: from_number(inputs.a),
         b: from_number(inputs.b),
         q: from_number(inputs.q),
@@ -133,8 +136,7 @@ fn run_page(inputs: &Inputs, faults: &Faults) -> Outcome {
         macro_link: inputs.macro_link == 1,
         borrow: inputs.borrow == 1,
         faults,
-    };
-    perform(inputs.opcode, &cycle)
+    }
 }
 
 fn low_bits<const N: usize>(value: u8) -> [bool; N] {
@@ -160,6 +162,6 @@ fn parity(y: &Bits, faults: &Faults) -> u8 {
 }
 
 /// A status number with bits 13, 14, 15 and 23 worked out.
-pub fn worked_out(status: u32) -> u32 {
-    to_number(&Status::load(&from_number(status)).read(&Faults::none()))
+pub fn worked_out(status: u32, mode: Mode, faults: &Faults) -> u32 {
+    to_number(&Status::load(&from_number(status)).read(mode, faults))
 }

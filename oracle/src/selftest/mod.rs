@@ -2,6 +2,7 @@
 //! and makes the whole fail.
 
 mod bench;
+mod bit13;
 mod decimal;
 mod draws;
 mod examples;
@@ -41,7 +42,7 @@ impl Group {
 type Test = (&'static str, fn(&mut Group));
 
 /// Every group, in order.
-const GROUPS: [Test; 38] = [
+const GROUPS: [Test; 46] = [
     ("document 01, examples a to m", examples::lettered),
     ("document 01, the trace example", examples::trace_example),
     ("manual, field pages", manual::field_pages),
@@ -97,6 +98,17 @@ const GROUPS: [Test; 38] = [
     ),
     ("a run in parts equals a run at once", runs::in_parts),
     ("interrupts leave main undisturbed", runs::interrupts),
+    ("bit 13 by hand", bit13::by_hand),
+    ("bit 13 by C, Z and the switch", bit13::table),
+    (
+        "comparisons by SUB and SUBR, all one-byte pairs",
+        bit13::all_bytes,
+    ),
+    ("comparisons by SUB and SUBR, random wider", bit13::wider),
+    ("bit 13 after runs, at every allowance", bit13::runs),
+    ("bit 13 after interrupted runs", bit13::interrupted),
+    ("bit 13 in the lines of traces", bit13::traces),
+    ("bit 13 taken in changes nothing", bit13::loaded),
     ("the draw's boundary patterns", draws::patterns),
     ("the draw's runs end in every way", draws::reasons),
     ("listings by hand", listing::by_hand),
