@@ -9,7 +9,8 @@
  * - one 64-bit sum gives the result and the carry into every bit, hence C and
  *   V of any width and all eight nibble borrows;
  * - the status register is kept in parts, each in the form that is cheapest to
- *   store; bits 13 to 15 and the packed word are made only when it is read;
+ *   store; bits 13 to 15 and the packed word are made only when it is read, and
+ *   only then is the borrow switch looked at for bit 13;
  * - a sheet is checked once, and then run without further tests.
  */
 #include "model.h"
@@ -132,14 +133,25 @@ INLINE void load_status(struct machine *m, uint32_t word)
     m->nibbles = spread(word >> 24);
 }
 
-/* The whole register: 13 is C or Z, 14 is N xor V, 15 is (N xor V) or Z, 23
- * is 0. The one place where these are worked out. */
-INLINE uint32_t read_status(const struct machine *m)
+/* What a run hands back is read in carry mode. */
+enum { CARRY_MODE = 0 };
+
+/* The whole register, by a borrow switch: 13 is C or Z where it is 1 and (not
+ * C) or Z where it is 0, 14 is N xor V, 15 is (N xor V) or Z, 23 is 0. The one
+ * place where these are worked out. */
+INLINE uint32_t read_status(const struct machine *m, uint32_t borrow)
 {
     uint32_t z = z_flag(m), n = n_flag(m), v = v_flag(m), less = n ^ v;
-    return m->pw | (m->c | z) << 13 | less << 14 | (less | z) << 15 |
+    uint32_t below = m->c ^ borrow ^ 1;
+    return m->pw | (below | z) << 13 | less << 14 | (less | z) << 15 |
            m->c << 16 | n << 17 | v << 18 | z << 19 |
            m->l << 20 | m->m << 21 | m->s << 22 | gather(m->nibbles);
+}
+
+/* The register as a word reads it, by its own switch. */
+INLINE uint32_t status_for(const struct machine *m, uint64_t word)
+{
+    return read_status(m, borrow_of(word));
 }
 
 INLINE struct machine enter(struct model_machine outside)
@@ -150,9 +162,9 @@ INLINE struct machine enter(struct model_machine outside)
     return m;
 }
 
-INLINE struct model_machine leave(const struct machine *m)
+INLINE struct model_machine leave(const struct machine *m, uint32_t borrow)
 {
-    struct model_machine outside = {m->q, read_status(m)};
+    struct model_machine outside = {m->q, read_status(m, borrow)};
     return outside;
 }
 
@@ -240,10 +252,10 @@ INLINE uint32_t sign(struct machine *m, uint32_t shift, uint32_t b)
 }
 
 /* LDSTAT-A, LDSTAT-B: Y has the operand's bytes as they are. */
-INLINE uint32_t load_selected_status(struct machine *m, uint32_t shift,
+INLINE uint32_t load_selected_status(struct machine *m, uint64_t word,
                                      uint32_t x)
 {
-    uint32_t y = merge(shift, x, read_status(m));
+    uint32_t y = merge(shift_of(word), x, status_for(m, word));
     load_status(m, y);
     return y;
 }
@@ -800,10 +812,10 @@ INLINE uint32_t reset_bit(struct machine *m, uint64_t word, uint32_t x)
 }
 
 /* SETBIT-STAT, RSTBIT-STAT: Y is the new status, worked out. */
-INLINE uint32_t put_status(struct machine *m, uint32_t status)
+INLINE uint32_t put_status(struct machine *m, uint64_t word, uint32_t status)
 {
     load_status(m, status);
-    return read_status(m);
+    return status_for(m, word);
 }
 
 /* An operand and the mask of the field it is used in. */
@@ -901,7 +913,7 @@ INLINE uint32_t execute(struct machine *m, uint64_t word, uint32_t a,
     case OP_ZERO_EXTB: return zero_extend(m, shift, b);
     case OP_SIGN_EXTA: return sign_extend(m, shift, a);
     case OP_SIGN_EXTB: return sign_extend(m, shift, b);
-    case OP_PASS_STAT: return merge(shift, read_status(m), b);
+    case OP_PASS_STAT: return merge(shift, status_for(m, word), b);
     case OP_PASS_Q: return merge(shift, m->q, b);
     case OP_LOADQ_A: return load_q(m, shift, a);
     case OP_LOADQ_B: return load_q(m, shift, b);
@@ -925,8 +937,8 @@ INLINE uint32_t execute(struct machine *m, uint64_t word, uint32_t a,
     case OP_DECR4_B: return decrement(m, word, b, 4);
     case OP_INCR4_A: return increment(m, word, a, 4);
     case OP_INCR4_B: return increment(m, word, b, 4);
-    case OP_LDSTAT_A: return load_selected_status(m, shift, a);
-    case OP_LDSTAT_B: return load_selected_status(m, shift, b);
+    case OP_LDSTAT_A: return load_selected_status(m, word, a);
+    case OP_LDSTAT_B: return load_selected_status(m, word, b);
 
     case OP_DN1_0F_A: return down(m, shift, a, 0);
     case OP_DN1_0F_B: return down(m, shift, b, 0);
@@ -1015,9 +1027,9 @@ INLINE uint32_t execute(struct machine *m, uint64_t word, uint32_t a,
     case OP_RSTBIT_A: return reset_bit(m, word, a);
     case OP_RSTBIT_B: return reset_bit(m, word, b);
     case OP_SETBIT_STAT:
-        return put_status(m, read_status(m) | chosen_bit(m, word));
+        return put_status(m, word, status_for(m, word) | chosen_bit(m, word));
     case OP_RSTBIT_STAT:
-        return put_status(m, read_status(m) & ~chosen_bit(m, word));
+        return put_status(m, word, status_for(m, word) & ~chosen_bit(m, word));
     case OP_NOTF_AL_B: return field_not(m, aligned(m, word, b), b);
     case OP_PASSF_AL_B: return field_pass(m, aligned(m, word, b), b);
     case OP_NOTF_A: return field_not(m, moved(m, word, a), b);
@@ -1034,7 +1046,7 @@ INLINE uint32_t execute(struct machine *m, uint64_t word, uint32_t a,
     case OP_EXTF_B: return extract(m, moved(m, word, b));
     case OP_EXTF_AB: return extract_double(m, word, a, b);
     case OP_EXTF_BA: return extract_double(m, word, b, a);
-    case OP_EXTBIT_STAT: return extract_bit(m, word, read_status(m));
+    case OP_EXTBIT_STAT: return extract_bit(m, word, status_for(m, word));
     case OP_PASS_MASK: return pass_mask(m, word);
     default: return 0; /* no page: refused before it comes here */
     }
@@ -1065,7 +1077,7 @@ uint32_t model_step(const uint8_t *sheet, uint64_t index, uint32_t *file,
     uint32_t y = execute(&m, word, file[a_of(word)], file[b_of(word)]);
     if (bit_of(word, AT_WRITE))
         file[y_of(word)] = y;
-    *machine = leave(&m);
+    *machine = leave(&m, borrow_of(word));
     return y;
 }
 
@@ -1127,7 +1139,7 @@ struct model_answer model_single(const struct model_inputs *in)
         struct machine m = enter(machine);
         answer.y = execute(&m, packed(&fields), in->a, in->b);
         answer.parity = parity_of(answer.y);
-        machine = leave(&m);
+        machine = leave(&m, in->borrow);
         answer.q = machine.q;
         answer.status = machine.status;
     }
@@ -1275,7 +1287,7 @@ struct model_verdict model_run(const uint8_t *bytes, size_t length,
         count = allowance;
     m = enter(*machine);
     run_words(sheet.words + MODEL_WORD_BYTES * start, count, file, &m);
-    *machine = leave(&m);
+    *machine = leave(&m, CARRY_MODE);
     return verdict(MODEL_DONE, count);
 }
 
@@ -1429,6 +1441,6 @@ struct model_verdict model_run_interrupted(
     }
     run_words(main_sheet.words + MODEL_WORD_BYTES * done,
               main_sheet.count - done, file, &m);
-    *machine = leave(&m);
+    *machine = leave(&m, CARRY_MODE);
     return verdict(MODEL_DONE, main_sheet.count + entries * handler.count);
 }

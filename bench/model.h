@@ -7,6 +7,10 @@
  * the handler's form. It is held to the independent program in ../oracle by
  * test-model.sh.
  *
+ * Bit 13 of the status, UNSIGNED LE, goes by a borrow switch (document 02,
+ * request 3): by that of the word which reads it, in a single word's answer and
+ * after a step too; by 0, carry mode, after a run and an interrupted run.
+ *
  * Numbers outside their range are refused, not trusted. A refusal runs nothing
  * and changes nothing that was lent. Every function is re-entrant: there is no
  * state but what the caller hands in.
