@@ -31,9 +31,11 @@
  *
  *    0 to 7   position; 6 and 7 can be loaded and read and have no use
  *    8 to 12  width; 0 stands for 32
- *   13  UNSIGNED LE  C or Z          ]
- *   14  SIGNED LT    N xor V         ] worked out from the other bits
- *   15  SIGNED LE    (N xor V) or Z  ]
+ *   13  UNSIGNED LE  by a borrow switch  ]
+ *                      1: C or Z         ]
+ *                      0: (not C) or Z   ] worked out from the other bits
+ *   14  SIGNED LT    N xor V             ]
+ *   15  SIGNED LE    (N xor V) or Z      ]
  *   16  C  carry             20  L  link
  *   17  N  negative          21  M  multiply (and divide) bit
  *   18  V  overflow          22  S  sign flag
@@ -43,11 +45,23 @@
  * Bits 13, 14, 15 and 23 of a status handed in are ignored. Every accepted call
  * hands them back as worked out, even where no word runs.
  *
+ * Bit 13 goes by the borrow switch of the word that reads or shows the status:
+ * of the word itself in all that it puts on Y, in what am29332_single_word
+ * answers and in what am29332_step shows. What am29332_run and
+ * am29332_interrupted_run hand back is in carry mode, switch 0, whatever the
+ * words were: a run of no word on a fresh machine hands back 00002000.
+ *
+ * After SUB (A less B) and SUBR (B less A), on one to four bytes, the three bits
+ * compare the first operand with the second: 13 is 1 exactly where it is less
+ * than or equal to it as an unsigned number, 14 where it is less than it and 15
+ * where it is less than or equal to it as a signed one. Bit 13 says so in the
+ * mode of the subtraction: as that word shows it, as a later word of the same
+ * switch reads it, and as a run hands it back whose last word is a subtraction in
+ * carry mode.
+ *
  * Where a caller who has AMD's manual open sees something else than its page
  * (docs/MANUAL.md has each entry in full, and all others):
  *
- *   M27  Bit 13, UNSIGNED LE, is C or Z in both modes. After a subtraction in
- *        carry mode `less or equal, unsigned` is C 0 or Z 1, not bit 13.
  *   M1   REMCORR passes B where N and S are 0, so that a division without jumps
  *        ends with the right remainder.
  *   M3   The new quotient bit of UDIVSTEP, UDIVLAST and MPUDIVSTP3 is the
@@ -81,8 +95,8 @@ extern "C" {
 /* The version of this header, and of the library that am29332_library_version
  * answers for. Another major number: a caller must be changed. A higher minor
  * one: something was added. */
-#define AM29332_LIBRARY_VERSION_MAJOR 1
-#define AM29332_LIBRARY_VERSION_MINOR 1
+#define AM29332_LIBRARY_VERSION_MAJOR 2
+#define AM29332_LIBRARY_VERSION_MINOR 0
 #define AM29332_LIBRARY_VERSION_PATCH 0
 #define AM29332_LIBRARY_VERSION                                                \
     (AM29332_LIBRARY_VERSION_MAJOR * UINT32_C(65536) +                         \
@@ -410,7 +424,8 @@ am29332_machine am29332_fresh(void);
  * One word on values: what the chip's pins show, without sheet and registers.
  *
  * Promises: Y, its parity, Q and status are what the opcode's page in the
- * manual's chapter 2 says; bits 13, 14, 15 and 23 of the status as worked out.
+ * manual's chapter 2 says; bits 13, 14, 15 and 23 of the status as worked out,
+ * 13 by the word's own borrow switch.
  * Refuses, in this order: 1 OPCODE, 2 INPUTS; Y and parity are then 0, Q and
  * status as handed in. The place is always 0.
  */
@@ -514,8 +529,8 @@ am29332_wrote am29332_read_listing(const uint8_t *text, size_t length,
  * Promises: the place is the number of words run, the smaller of the allowance
  * and the words left. The file, Q and status are what those words leave one
  * after another: each reads A and B from the file and stores Y only when write
- * is 1. Going on from start + place with what a run left is the same as one
- * longer run.
+ * is 1. Bit 13 of the status is in carry mode. Going on from start + place with
+ * what a run left is the same as one longer run.
  * Refuses, in this order: 3 SHORT, 4 VERSION, 5 HEADER, 6 LENGTH, 7 FILE; then
  * words in order, in each 8 SPARE, 1 OPCODE, 9 REGISTER; then 10 START. The
  * whole sheet is checked, also the words that would not run.
@@ -530,9 +545,11 @@ am29332_ran am29332_run(const uint8_t *sheet, size_t length,
  * panel or a debugger.
  *
  * Promises: the place is 1, or 0 where `start` is the count and no word is
- * left. The file, Q and status are those of am29332_run with an allowance of 1;
- * Y and parity are what am29332_single_word answers on the word's fields and
- * its two registers, whether write is 1 or not. Where no word ran they are 0.
+ * left. The file, Q and status are those of am29332_run with an allowance of 1,
+ * but that bit 13 of the status is by the word's own borrow switch; Y, parity
+ * and status are what am29332_single_word answers on the word's fields and its
+ * two registers, whether write is 1 or not. Where no word ran Y and parity are
+ * 0, and the status is in carry mode.
  * Refuses: as am29332_run does, and checks the whole sheet at each call; Y and
  * parity are then 0.
  */
@@ -546,10 +563,11 @@ am29332_stepped am29332_step(const uint8_t *sheet, size_t length,
  * words and before the next. Equal entries run it again.
  *
  * Promises: the file, Q and status are what main and handler words leave, run
- * singly in that order; the place is the number of words run, main and handler
- * words together, and the mark 0. So the registers that the main sheet names, Q
- * and status end as if the handler had never run, and those that the handler
- * names, its two save registers apart, as if it alone had run as often.
+ * singly in that order, bit 13 of the status in carry mode; the place is the
+ * number of words run, main and handler words together, and the mark 0. So the
+ * registers that the main sheet names, Q and status end as if the handler had
+ * never run, and those that the handler names, its two save registers apart, as
+ * if it alone had run as often.
  * Refuses, in this order: what am29332_run refuses in the main sheet but 10
  * START (mark 1), the same in the handler's sheet (mark 2), 11 FORM (mark 2),
  * 12 OVERLAP (mark 1), 13 SCHEDULE (mark 0).

@@ -2,10 +2,10 @@
 use Prim.Native.Nat.{ℕ, _+_, _*_}
 
 abbrev pub major : ℕ
-major = 1
+major = 2
 
 abbrev pub minor : ℕ
-minor = 1
+minor = 0
 
 abbrev pub patch : ℕ
 patch = 0

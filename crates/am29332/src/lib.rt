@@ -85,7 +85,7 @@ pub struct Interrupted {
 pub extern "C" fn am29332_library_version() -> u32
     ensures { λ r. ⌜ r ≡ libraryVersion ⌝ }
 {
-    0x01_01_00
+    0x02_00_00
 }
 
 // A fresh machine.

@@ -5,6 +5,9 @@ ghost use Rattle.machine.specs.Status.{UNSIGNED-LE, SIGNED-LT, SIGNED-LE
 ghost use Rattle.machine.specs.Inputs.{bitsOf, positionOf, widthOf, carryIn, linkIn, readBy, fullWidth, result, Sound};
 ghost use Rattle.machine.specs.Core.{freshOf, taken, handedBack, shownBy, shownStatus};
 
+// The borrow switch of carry mode, in which runs hand the status register back; that of borrow mode is 1.
+const CARRY_MODE: u32 = 0;
+
 // The status register as fields, without bits 13, 14, 15 and 23. Each flag is 0 or 1; the bit of nibble i is bit 4 i.
 pub struct Status {
     pub position: u32,
@@ -89,7 +92,7 @@ impl Core {
         let status = self.status;
         Machine {
             q: self.q,
-            status: status.read(Status::CARRY_MODE),
+            status: status.read(CARRY_MODE),
         }
     }
 }
@@ -141,9 +144,6 @@ impl Status {
     pub const S: u32 = 0x40_0000;
 
     pub const NIBBLES: u32 = 0x100_0000;
-
-    // The borrow switch of carry mode, in which calls hand the register back; that of borrow mode is 1.
-    pub const CARRY_MODE: u32 = 0;
 
     // A word loaded into the register: bits 13, 14, 15 and 23 are ignored.
     pub fn load(x: u32) -> Status
@@ -204,7 +204,7 @@ impl Status {
         requires { ⌜ Good self ⌝ }
         ensures { λ r. ⌜ (r ≡ UNSIGNED-LE borrow self) × (r < 2) ⌝ }
     {
-        if borrow == Self::CARRY_MODE {
+        if borrow == CARRY_MODE {
             return (1 - self.c) | self.z;
         }
         self.c | self.z

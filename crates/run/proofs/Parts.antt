@@ -90,6 +90,12 @@ module _ (s file : List ℕ) (m : Machine) (start a b : ℕ) (registers : (r : �
       execs-sane (length file) first (entering file m) (all-take _ a rest (all-drop _ start (executionsOf s) (each-ready s (length file) (ready s (length file) (Number start) passed))))
       (entering-sane file m registers q)
 
+  -- What a run hands back is in carry mode, whatever words ran: read so again it is the same.
+  pub run-carry-mode : handedBack (taken (runOf s file m start a .answer .machine)) ≡ runOf s file m start a .answer .machine
+  run-carry-mode =
+      let e : runOf s file m start a .answer .machine ≡ handedBack (t₁ .core) = ap (λ (x : Ended). x .answer .machine) (run-is s file m start a passed) in
+      ap (λ (k : Machine). handedBack (taken k)) e ∙ ap handedBack (taken-back (t₁ .core) (sane .status)) ∙ sym e
+
   -- those of the second run
   second-is : executed s (start + length first) b ≡ take b (drop a rest)
   second-is =
