@@ -25,7 +25,7 @@ def files(entry, text):
     """The files of text's '`name` in FILE', each name being defined there."""
     found = re.findall(r"((?:`[^`]+`(?:, | and )?)+) in (crates/\S+?\.antt)", text)
     for path, name in [(path, name) for names, path in found for name in re.findall(r"`([^`]+)`", names)]:
-        if not re.search(r"^(?:(?:abbrev|unfoldable|pub|record|data) )*" + re.escape(name) + " :", read(path), re.M):
+        if not re.search(r"^ *(?:(?:abbrev|unfoldable|pub|record|data) )*" + re.escape(name) + " :", read(path), re.M):
             wrong.append(f"{entry}: {path} has no {name}")
     return [path for _, path in found]
 
