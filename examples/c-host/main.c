@@ -314,6 +314,25 @@ static void single_word(void)
            (answer.status & AM29332_STATUS_Z) != 0);
 }
 
+/* Two numbers compared on one byte, as a branch is picked: SUB, and what its
+ * answer says. Bit 13 is right in either mode, since it goes by the word's own
+ * borrow switch. */
+static void compare(uint32_t borrow)
+{
+    am29332_inputs inputs = {.opcode = AM29332_OP_SUB,
+                             .code = 1,
+                             .borrow = borrow,
+                             .a = 0x0F,
+                             .b = 0xF0};
+    am29332_answer answer = am29332_single_word(inputs);
+    print_outcome(borrow ? "SUB of 0F and F0, borrow mode"
+                         : "SUB of 0F and F0, carry mode",
+                  answer.outcome);
+    printf("  less or equal: unsigned %s, signed %s\n",
+           answer.status & AM29332_STATUS_UNSIGNED_LE ? "yes" : "no",
+           answer.status & AM29332_STATUS_SIGNED_LE ? "yes" : "no");
+}
+
 /* The library that is linked, which must be one that this header describes. */
 static void library(void)
 {
@@ -348,6 +367,8 @@ int main(int count, char **arguments)
     }
     library();
     single_word();
+    compare(0);
+    compare(1);
     print_outcome("check of no bytes", am29332_check_sheet(NULL, 0));
     read_job(arguments[1], &job);
     am29332_outcome check = am29332_check_sheet(job.bytes, job.length);

@@ -154,6 +154,8 @@ am29332_stepped am29332_step(const uint8_t *sheet, size_t length,
                                   start, 1);
     if (ran.outcome.reason != AM29332_REASON_DONE || ran.outcome.place == 0)
         shown = (struct model_answer){0};
+    else
+        ran.machine.status = shown.status; /* bit 13 by the word's own switch */
     return (am29332_stepped){ran.outcome, shown.y, shown.parity, ran.machine};
 }
 

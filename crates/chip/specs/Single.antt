@@ -57,7 +57,7 @@ singleInputs s =
       status = core .status;
     }
 
--- what stands at the chip, and what the word shows
+-- what the word shows
 abbrev pub singleShown : SingleWord → Shown
 singleShown s = shownBy (s .borrow) (performOf (s .opcode) (singleInputs s))
 

@@ -199,7 +199,7 @@ impl Status {
             | (self.z * Self::Z_15)
     }
 
-    // Bit 13: C or Z in borrow mode, (not C) or Z in carry mode.
+    // Bit 13 (EXTBIT-STAT, note 2): C or Z in borrow mode, (not C) or Z in carry mode.
     fn unsigned_le(self, borrow: u32) -> u32
         requires { ⌜ Good self ⌝ }
         ensures { λ r. ⌜ (r ≡ UNSIGNED-LE borrow self) × (r < 2) ⌝ }

@@ -119,7 +119,7 @@ mod library {
 }
 
 /// The version of the header that this wrapper was written for: major, minor, patch.
-pub const VERSION: (u32, u32, u32) = (1, 1, 0);
+pub const VERSION: (u32, u32, u32) = (2, 0, 0);
 
 /// Bytes of buffers that always suffice: for a sheet, and for its listing.
 pub const SHEET_MOST: usize = 24_574;

@@ -288,6 +288,33 @@ fn single_word() {
     }
 }
 
+/// Two numbers compared on one byte, as a branch is picked: SUB, and what its answer says. Bit 13 is right in
+/// either mode, since it goes by the word's own borrow switch.
+fn compare(borrow: u32) {
+    let inputs = Inputs {
+        opcode: 0x44,
+        code: 1,
+        borrow,
+        a: 0x0F,
+        b: 0xF0,
+        ..Inputs::default()
+    };
+    let answer = inputs.perform();
+    let mode = if borrow == 1 { "borrow" } else { "carry" };
+    print_check(
+        &format!("SUB of 0F and F0, {mode} mode"),
+        answer.map(|_| ()),
+    );
+    if let Ok(a) = answer {
+        let status = a.machine.status;
+        println!(
+            "  less or equal: unsigned {}, signed {}",
+            yes(status >> 13 & 1 == 1),
+            yes(status >> 15 & 1 == 1)
+        );
+    }
+}
+
 /// The first word of the sheet, field by field.
 fn first_word(job: &Job) {
     let word = Word::unpack(&job.sheet[HEADER_BYTES..]);
@@ -308,6 +335,8 @@ fn main() {
     };
     library();
     single_word();
+    compare(0);
+    compare(1);
     print_check("check of no bytes", check_sheet(&[]));
     let bytes = std::fs::read(path).unwrap_or_else(|error| {
         eprintln!("{path}: {error}");
