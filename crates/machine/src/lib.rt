@@ -1,7 +1,8 @@
 // The machine: the status register, Q, and what stands at the chip when a word starts and when it ends.
 ghost use mathlib.Core.Path.{_≡_};
 ghost use Prim.Native.Nat.{_+_, _*_, _^_, _<_, _≤_};
-ghost use Rattle.machine.specs.Status.{UNSIGNED-LE, SIGNED-LT, SIGNED-LE, gathered, spreadOut, asRead, loaded, Good};
+ghost use Rattle.bits.specs.Bits.{choose};
+ghost use Rattle.machine.specs.Status.{workedOut, gathered, spreadOut, asRead, loaded, Good};
 ghost use Rattle.machine.specs.Inputs.{bitsOf, positionOf, widthOf, carryIn, linkIn, readBy, fullWidth, result, Sound};
 ghost use Rattle.machine.specs.Core.{freshOf, taken, handedBack, shownBy, shownStatus};
 
@@ -182,32 +183,24 @@ impl Status {
         }
     }
 
-    // Each flag with those of bits 14 and 15 that it counts in: N and V in both, Z in 15.
+    // Each flag with those of bits 13 to 15 that it counts in: C in 13, N and V in 14 and 15, Z in 13 and 15.
+    const C_13: u32 = 0x1_2000;
+
     const N_14_15: u32 = 0x2_c000;
 
     const V_14_15: u32 = 0x4_c000;
 
-    const Z_15: u32 = 0x8_8000;
+    const Z_13_15: u32 = 0x8_a000;
 
-    // Bits 14 to 19 in their places: where one bit is of two flags, N and V are exclusive, Z is not.
-    fn flags(self) -> u32
+    // Bits 13 to 19 in their places: where one bit is of two flags, N and V are exclusive, C and Z are not; in bit 13 C counts by the switch.
+    fn flags(self, borrow: u32) -> u32
         requires { ⌜ Good self ⌝ }
-        ensures { λ r. ⌜ (r ≡ SIGNED-LT self * 2 ^ 14 + SIGNED-LE self * 2 ^ 15 + self .c * 2 ^ 16 + self .n * 2 ^ 17 + self .v * 2 ^ 18 + self .z * 2 ^ 19) × (r < 2 ^ 20) ⌝ }
+        ensures { λ r. ⌜ (r ≡ workedOut borrow self * 2 ^ 13 + self .c * 2 ^ 16 + self .n * 2 ^ 17 + self .v * 2 ^ 18 + self .z * 2 ^ 19) × (r < 2 ^ 20) ⌝ }
     {
+        let turned = turn(borrow);
         ((self.n * Self::N_14_15) ^ (self.v * Self::V_14_15))
-            | (self.c * Self::C)
-            | (self.z * Self::Z_15)
-    }
-
-    // Bit 13 (EXTBIT-STAT, note 2): C or Z in borrow mode, (not C) or Z in carry mode.
-    fn unsigned_le(self, borrow: u32) -> u32
-        requires { ⌜ Good self ⌝ }
-        ensures { λ r. ⌜ (r ≡ UNSIGNED-LE borrow self) × (r < 2) ⌝ }
-    {
-        if borrow == CARRY_MODE {
-            return (1 - self.c) | self.z;
-        }
-        self.c | self.z
+            | ((self.c * Self::C_13) ^ turned)
+            | (self.z * Self::Z_13_15)
     }
 
     // The register as it is read under a borrow switch.
@@ -215,10 +208,9 @@ impl Status {
         requires { ⌜ Good self ⌝ }
         ensures { λ r. ⌜ r ≡ asRead borrow self ⌝ }
     {
-        let flags = self.flags();
+        let flags = self.flags(borrow);
         self.position
             + self.width * Self::WIDTH
-            + self.unsigned_le(borrow) * Self::UNSIGNED_LE
             + flags
             + self.l * Self::L
             + self.m * Self::M
@@ -321,6 +313,16 @@ impl Inputs {
             status: s,
         }
     }
+}
+
+// What turns C over in bit 13 (EXTBIT-STAT, note 2): in carry mode it counts there as (not C), in borrow mode as it is.
+fn turn(borrow: u32) -> u32
+    ensures { λ r. ⌜ r ≡ choose borrow 0x2000 0 ⌝ }
+{
+    if borrow == CARRY_MODE {
+        return Status::UNSIGNED_LE;
+    }
+    0
 }
 
 // Width 0 stands for 32 (table 2).
