@@ -37,6 +37,7 @@ use Rattle.sequence.proofs.Lists.{not-cut}
 use Rattle.sequence.proofs.Relational.{relational}
 use Rattle.sequence.proofs.DivideNumbers.{operandOf}
 use Rattle.sequence.proofs.SignedSteps.{low-sum}
+use Rattle.sequence.proofs.SignedFlags.{xor-none}
 
 -- ---- on numbers
 -- two numbers by sign bit and low bits, where k says that nothing is borrowed from the sign bits
@@ -237,10 +238,7 @@ module _ {m : ℕ} (w : Word) (t : State) (fits : WordReady m w) (sane : Sane t)
   -- EXTBIT-STAT of bit 13 with the same switch brings that to bit 0 of Y, and to L
   module _ (v : Word) {a b : ℕ} (c : Compares w t a b) (p : Picks (w .borrow) v) where
     bit : xor (bitOf 13 (asRead (w .borrow) (stepOf w t .core .status))) 0 ≡ unsignedAtMost (selected (w .code)) a b
-    bit = ap (λ (f : ℕ). xor f 0) (word-compares c .unsigned-le) ∙ itself (unsignedAtMost (selected (w .code)) a b) (flag-lt (leb (a % 2 ^ selected (w .code)) (b % 2 ^ selected (w .code))))
-      where
-        itself : (f : ℕ) → f < 2 → xor f 0 ≡ f
-        itself f h = omega arith
+    bit = ap (λ (f : ℕ). xor f 0) (word-compares c .unsigned-le) ∙ xor-none (unsignedAtMost (selected (w .code)) a b) (flag-lt (leb (a % 2 ^ selected (w .code)) (b % 2 ^ selected (w .code))))
 
     pub word-picks : shownOf v (stepOf w t) .y ≡ unsignedAtMost (selected (w .code)) a b
     unfolding performOf EXTBIT-STAT

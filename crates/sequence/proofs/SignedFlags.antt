@@ -44,7 +44,7 @@ v-reset s g =
 flags : (f g : ℕ) → f < 2 → g < 2 → max f g < 2
 flags f g hf hg = omega arith
 
-xor-none : (f : ℕ) → f < 2 → xor f 0 ≡ f
+pub xor-none : (f : ℕ) → f < 2 → xor f 0 ≡ f
 xor-none f h = omega arith
 
 -- ---- the five words that write nothing, n bits being selected; b, a and o are the words in the registers of remainder, divisor and zero
