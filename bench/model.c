@@ -1125,6 +1125,12 @@ static uint32_t reason_of_fields(const struct model_word *w)
     return MODEL_DONE;
 }
 
+uint32_t model_pins(uint32_t status)
+{
+    return (status >> 12 & 16) | (status >> 16 & 8) | (status >> 15 & 4) |
+           (status >> 17 & 2) | (status >> 20 & 1);
+}
+
 struct model_answer model_single(const struct model_inputs *in)
 {
     const struct model_word fields = {
@@ -1143,6 +1149,7 @@ struct model_answer model_single(const struct model_inputs *in)
         answer.q = machine.q;
         answer.status = machine.status;
     }
+    answer.pins = model_pins(answer.status);
     return answer;
 }
 

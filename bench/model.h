@@ -11,6 +11,9 @@
  * request 3): by that of the word which reads it, in a single word's answer and
  * after a step too; by 0, carry mode, after a run and an interrupted run.
  *
+ * The pins C, Z, N, V and L show those flags of the status after a word (document
+ * 02, request 4): five bits, C in bit 4.
+ *
  * Numbers outside their range are refused, not trusted. A refusal runs nothing
  * and changes nothing that was lent. Every function is re-entrant: there is no
  * state but what the caller hands in.
@@ -97,7 +100,8 @@ struct model_inputs {
     uint32_t q, status;
 };
 
-/* A single word's answer. Parity has four bits, the highest byte's in bit 3. */
+/* A single word's answer. Parity has four bits, the highest byte's in bit 3; the
+ * pins have five, C in bit 4, then Z, N, V, L. */
 struct model_answer {
     uint32_t reason;
     uint32_t place;
@@ -105,10 +109,15 @@ struct model_answer {
     uint32_t parity;
     uint32_t q;
     uint32_t status;
+    uint32_t pins;
 };
 
-/* One word. Refused (1, 2): Q and status as handed in, Y and parity 0. */
+/* One word. Refused (1, 2): Q and status as handed in and the pins of that
+ * status, Y and parity 0. */
 struct model_answer model_single(const struct model_inputs *inputs);
+
+/* The pins with this status in the register: after model_step too. */
+uint32_t model_pins(uint32_t status);
 
 /* Packs into the first six of `room` bytes. Refuses 1, 2, 14. */
 struct model_verdict model_pack(const struct model_word *word,

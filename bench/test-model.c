@@ -188,9 +188,9 @@ static uint64_t run_case(uint64_t sum, const struct model_inputs *in,
 static uint64_t single_case(uint64_t sum, const struct model_inputs *in)
 {
     struct model_answer out = model_single(in);
-    const uint32_t values[6] = {out.reason, out.place, out.y,
-                                out.parity, out.q,     out.status};
-    return fold(sum, values, 6);
+    const uint32_t values[7] = {out.reason, out.place,  out.y,   out.parity,
+                                out.q,      out.status, out.pins};
+    return fold(sum, values, 7);
 }
 
 /* The cases as single words, and the same cases run on registers. */
@@ -245,9 +245,9 @@ static int vector_holds(void)
     out = model_single(&in);
     snprintf(answer_text, sizeof answer_text,
              "%02" PRIX32 " %02" PRIX32 " %08" PRIX32 " %08" PRIX32
-             " %08" PRIX32 "\n",
-             out.reason, out.parity, out.y, out.q, out.status);
-    return strlen(line) == 93 && strcmp(at, answer_text) == 0;
+             " %08" PRIX32 " %02" PRIX32 "\n",
+             out.reason, out.parity, out.y, out.q, out.status, out.pins);
+    return strlen(line) == 96 && strcmp(at, answer_text) == 0;
 }
 
 /* A list of hex numbers that ends at a space; `-` is an empty one. Gives how
@@ -378,6 +378,15 @@ static void read_file_registers(struct trace_input *in)
                       (uint32_t)p[2] << 8 | (uint32_t)p[3];
 }
 
+/* The pins as five binary digits, C first. */
+static const char *pin_digits(uint32_t pins)
+{
+    static char digits[6];
+    for (int i = 0; i < 5; i++)
+        digits[i] = pins >> (4 - i) & 1 ? '1' : '0';
+    return digits;
+}
+
 /* The trace program's text. Leaves the file and the machine as they end. */
 static struct model_verdict trace(struct trace_input *in,
                                   struct model_machine *machine, char *text)
@@ -390,8 +399,9 @@ static struct model_verdict trace(struct trace_input *in,
             uint32_t y = model_step(in->bytes, i, in->file, machine);
             text += sprintf(text,
                             "%04" PRIX64 " %08" PRIX32 " %08" PRIX32
-                            " %08" PRIX32 "\n",
-                            i, y, machine->q, machine->status);
+                            " %08" PRIX32 " %s\n",
+                            i, y, machine->q, machine->status,
+                            pin_digits(model_pins(machine->status)));
         }
     }
     sprintf(text, "%02" PRIu32 " %04" PRIX64 "\n", v.reason, v.place);

@@ -30,12 +30,13 @@ echo "== words and sheets"
 "$oracle" trace-inputs "$work/inputs" "${TRACES:-600}"
 "$test" traces "$work"/inputs/*.in
 
-# Document 01's example, through the trace program; its status is document 02's.
+# Document 01's example, through the trace program; its status and its pins are
+# document 02's.
 printf '\020\001\010\000\200\200\000\102\016\000\000\000\000\000\000\000\000\363\022\064\126\074\000\000\000\000' >"$work/example"
 "$test" trace <"$work/example" >"$work/text"
 "$oracle" trace <"$work/example" | cmp - "$work/text"
-printf '0000 12345630 00000000 00002000\n00 0001\n' | cmp - "$work/text"
-echo "trace: document 01's example, with the status that document 02 gives it"
+printf '0000 12345630 00000000 00002000 00000\n00 0001\n' | cmp - "$work/text"
+echo "trace: document 01's example, with the status and the pins that document 02 gives it"
 
 echo "== handlers and interrupted runs"
 "$test" forms

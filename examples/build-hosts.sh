@@ -1,6 +1,6 @@
 #!/bin/sh
 # Builds the C host and the Rust host and runs both: examples/build-hosts.sh [FILE.sheet].
-# Works from any directory; without a file it is sheets/multiply.sheet, and what the hosts print is held to c-host/expected.txt.
+# Works from any directory; without a file it is sheets/fifteen.sheet, and what the hosts print is held to c-host/expected.txt.
 #
 # The proved library is x86-64 code. Where the machine is another kind, the C host is built for x86-64 with the kit's compiler and runs under the
 # kit's emulator. Rust would need its standard library for x86-64, which the kit does not have: there the Rust host is built for the machine itself, on
@@ -11,7 +11,7 @@ here=$(cd -- "$(dirname -- "$0")" && pwd)
 root=$(dirname -- "$here")
 archive=$root/target/staticlib/libam29332.a
 machine=$(uname -m)
-sheet=${1:-$here/sheets/multiply.sheet}
+sheet=${1:-$here/sheets/fifteen.sheet}
 
 work=$(mktemp -d)
 trap 'rm -rf -- "$work"' EXIT

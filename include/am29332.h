@@ -59,6 +59,19 @@
  * switch reads it, and as a run hands it back whose last word is a subtraction in
  * carry mode.
  *
+ * The pins C, Z, N, V and L, for a front panel, as one number:
+ *
+ *     4   3   2   1   0
+ *   +---+---+---+---+---+
+ *   | C | Z | N | V | L |     of the status:  bits 16, 19, 17, 18, 20
+ *   +---+---+---+---+---+
+ *
+ * am29332_single_word and am29332_step answer with them. They are those five
+ * bits of the status in the same answer, always: a flag that the word leaves
+ * alone shows the register's bit, and where no word ran, or it was refused, they
+ * show the status that was handed in. After a run they are those bits of the
+ * status that it hands back.
+ *
  * Where a caller who has AMD's manual open sees something else than its page
  * (docs/MANUAL.md has each entry in full, and all others):
  *
@@ -77,8 +90,8 @@
  *   M28, M33, M34  EXTBIT-STAT leaves Z; SIGN looks at the N flag; SETBIT-A and
  *        SETBIT-B always clear Z, RSTBIT-A and RSTBIT-B always set it.
  *   M46  1E, 1F, 4C and 4D have no page and are refused.
- *   N1 to N4  There is no HOLD, no output enable, no register status pin and no
- *        parity of inputs.
+ *   N1 to N4  There is no HOLD, no output enable, no register status pin (both of
+ *        its positions show the pins above) and no parity of inputs.
  */
 #ifndef AM29332_H
 #define AM29332_H
@@ -95,7 +108,7 @@ extern "C" {
 /* The version of this header, and of the library that am29332_library_version
  * answers for. Another major number: a caller must be changed. A higher minor
  * one: something was added. */
-#define AM29332_LIBRARY_VERSION_MAJOR 2
+#define AM29332_LIBRARY_VERSION_MAJOR 3
 #define AM29332_LIBRARY_VERSION_MINOR 0
 #define AM29332_LIBRARY_VERSION_PATCH 0
 #define AM29332_LIBRARY_VERSION                                                \
@@ -264,6 +277,13 @@ enum am29332_opcode {
 #define AM29332_STATUS_S UINT32_C(0x00400000)
 #define AM29332_STATUS_NIBBLES UINT32_C(0x01000000) /* times 0 to 255 */
 
+/* Weights of the pins. */
+#define AM29332_PIN_C UINT32_C(0x10)
+#define AM29332_PIN_Z UINT32_C(0x08)
+#define AM29332_PIN_N UINT32_C(0x04)
+#define AM29332_PIN_V UINT32_C(0x02)
+#define AM29332_PIN_L UINT32_C(0x01)
+
 /* ---- What is handed over ------------------------------------------------ */
 
 /* Q and the status register, as a caller holds them between runs. */
@@ -324,6 +344,7 @@ typedef struct am29332_answer {
                         each making the ones in byte and bit even */
     uint32_t q;
     uint32_t status;
+    uint32_t pins; /* C, Z, N, V and L in bits 4 to 0 */
 } am29332_answer;
 
 /* What unpacking answers. */
@@ -353,13 +374,14 @@ typedef struct am29332_ran {
     am29332_machine machine;
 } am29332_ran;
 
-/* What one word of a sheet answers: Y and parity as in am29332_answer, and the
- * machine to go on from. */
+/* What one word of a sheet answers: Y, parity and pins as in am29332_answer, and
+ * the machine to go on from. */
 typedef struct am29332_stepped {
     am29332_outcome outcome;
     uint32_t y;
     uint32_t parity;
     am29332_machine machine;
+    uint32_t pins;
 } am29332_stepped;
 
 /* What an interrupted run answers; mark is of enum am29332_mark. */
@@ -386,8 +408,9 @@ AM29332_CHECK(sizeof(am29332_inputs) == 48);
 AM29332_CHECK(offsetof(am29332_inputs, status) == 44);
 AM29332_CHECK(sizeof(am29332_outcome) == 16);
 AM29332_CHECK(offsetof(am29332_outcome, place) == 8);
-AM29332_CHECK(sizeof(am29332_answer) == 32);
+AM29332_CHECK(sizeof(am29332_answer) == 40);
 AM29332_CHECK(offsetof(am29332_answer, y) == 16);
+AM29332_CHECK(offsetof(am29332_answer, pins) == 32);
 AM29332_CHECK(sizeof(am29332_unpacked) == 64);
 AM29332_CHECK(offsetof(am29332_unpacked, word) == 16);
 AM29332_CHECK(sizeof(am29332_heading) == 32);
@@ -396,8 +419,9 @@ AM29332_CHECK(sizeof(am29332_wrote) == 24);
 AM29332_CHECK(offsetof(am29332_wrote, bytes) == 16);
 AM29332_CHECK(sizeof(am29332_ran) == 24);
 AM29332_CHECK(offsetof(am29332_ran, machine) == 16);
-AM29332_CHECK(sizeof(am29332_stepped) == 32);
+AM29332_CHECK(sizeof(am29332_stepped) == 40);
 AM29332_CHECK(offsetof(am29332_stepped, machine) == 24);
+AM29332_CHECK(offsetof(am29332_stepped, pins) == 32);
 AM29332_CHECK(sizeof(am29332_interrupted) == 32);
 AM29332_CHECK(offsetof(am29332_interrupted, mark) == 24);
 #undef AM29332_CHECK
@@ -421,13 +445,13 @@ uint32_t am29332_library_version(void);
 am29332_machine am29332_fresh(void);
 
 /*
- * One word on values: what the chip's pins show, without sheet and registers.
+ * One word on values, without sheet and registers.
  *
  * Promises: Y, its parity, Q and status are what the opcode's page in the
  * manual's chapter 2 says; bits 13, 14, 15 and 23 of the status as worked out,
- * 13 by the word's own borrow switch.
+ * 13 by the word's own borrow switch. The pins show that status.
  * Refuses, in this order: 1 OPCODE, 2 INPUTS; Y and parity are then 0, Q and
- * status as handed in. The place is always 0.
+ * status as handed in, and the pins show that status. The place is always 0.
  */
 am29332_answer am29332_single_word(am29332_inputs inputs);
 
@@ -546,12 +570,12 @@ am29332_ran am29332_run(const uint8_t *sheet, size_t length,
  *
  * Promises: the place is 1, or 0 where `start` is the count and no word is
  * left. The file, Q and status are those of am29332_run with an allowance of 1,
- * but that bit 13 of the status is by the word's own borrow switch; Y, parity
- * and status are what am29332_single_word answers on the word's fields and its
- * two registers, whether write is 1 or not. Where no word ran Y and parity are
- * 0, and the status is in carry mode.
+ * but that bit 13 of the status is by the word's own borrow switch; Y, parity,
+ * status and pins are what am29332_single_word answers on the word's fields and
+ * its two registers, whether write is 1 or not. Where no word ran Y and parity
+ * are 0, the status is in carry mode, and the pins show it.
  * Refuses: as am29332_run does, and checks the whole sheet at each call; Y and
- * parity are then 0.
+ * parity are then 0, and the pins show the status handed in.
  */
 am29332_stepped am29332_step(const uint8_t *sheet, size_t length,
                              uint32_t *file, size_t registers,

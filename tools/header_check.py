@@ -2,7 +2,7 @@
 """Tells where include/am29332.h and the library part. Works from any directory: tools/header_check.py.
 
 Read on the library's side: crates/am29332/src/lib.rt, the structs of the crates that it names, the numbers of crates/reasons, the status
-weights of crates/machine, the glossary of crates/chip, the longest listing of crates/listing, the version in crates/am29332/specs; and the symbols of
+and pin weights of crates/machine, the glossary of crates/chip, the longest listing of crates/listing, the version in crates/am29332/specs; and the symbols of
 target/staticlib/libam29332.a, where that has been built. Each difference is a line, and the exit status is then 1. Signatures, sizes and offsets,
 worked out from the .rt files, are also handed to the C compiler (CC, or cc) with the header.
 
@@ -213,6 +213,9 @@ def check_numbers(text):
     header = macros(text, "AM29332_STATUS_")
     compare("status weight", {name: int(value, 0) for name, value in weights},
             {name: value for name, value in header.items() if name not in ("POSITION", "SIGNED_LT", "SIGNED_LE")})
+    pins = re.search(r"^pinsOf s = (.*)$", read("crates/machine/specs/Pins.antt"), re.M).group(1)
+    compare("pin weight", {flag.upper(): int(weight or 1) for flag, weight in re.findall(r"s \.(\w)(?: \* (\d+))?", pins)},
+            macros(text, "AM29332_PIN_"))
     version = dict(re.findall(r"^(major|minor|patch) = (\d+)$", read("crates/am29332/specs/Version.antt"), re.M))
     compare("version", {name.upper(): int(value) for name, value in version.items()}, macros(text, "AM29332_LIBRARY_VERSION_"))
     return len(opcodes)

@@ -22,7 +22,7 @@ enum {
     HANDLER_WORDS = 7,
     HANDLER_BYTES = AM29332_SHEET_BYTES(HANDLER_WORDS),
     HANDLER_REGISTERS = 4,
-    PANEL_WORDS = 4,
+    PANEL_WORDS = 8,
     LISTING_LINES = 8
 };
 
@@ -46,6 +46,14 @@ static void print_machine(am29332_machine machine)
 {
     printf("  Q %08" PRIX32 ", status %08" PRIX32 "\n", machine.q,
            machine.status);
+}
+
+/* Five lamps, lit or dark: the pins C, Z, N, V and L. */
+static void print_lamps(uint32_t pins)
+{
+    for (uint32_t pin = AM29332_PIN_C; pin != 0; pin /= 2)
+        printf(" %c", (pins & pin) != 0 ? '*' : '.');
+    putchar('\n');
 }
 
 static void print_file(const uint32_t *file, size_t registers)
@@ -193,28 +201,39 @@ static bool same(const uint32_t *file, am29332_machine machine,
            memcmp(file, other_file, registers * sizeof *file) == 0;
 }
 
-/* A front panel: the first words one by one, with what each shows; then what is
- * said at the sheet's end and past it. */
+/* A line of the front panel: what stands on it after a step. */
+static void print_panel(am29332_stepped shown)
+{
+    printf("%08" PRIX32 "  %" PRIX32 "       %08" PRIX32 "  %08" PRIX32 " ",
+           shown.y, shown.parity, shown.machine.q, shown.machine.status);
+    print_lamps(shown.pins);
+}
+
+/* A small front panel: the first words one by one, with what each shows; then
+ * what is said and shown at the sheet's end and past it. */
 static void step_by_step(const struct job *job)
 {
     uint32_t file[AM29332_MAX_REGISTERS];
     am29332_machine machine = am29332_fresh();
     memcpy(file, job->file, sizeof file);
+    puts("front panel");
+    puts("  word  Y         parity  Q         status    C Z N V L");
     for (uint64_t at = 0; at < PANEL_WORDS && at < job->words; at++) {
         am29332_stepped shown = am29332_step(job->bytes, job->length, file,
                                              job->registers, machine, at);
         expect_done("step", shown.outcome);
-        printf("word %" PRIu64 ": Y %08" PRIX32 ", parity %" PRIX32
-               ", Q %08" PRIX32 ", status %08" PRIX32 "\n",
-               at, shown.y, shown.parity, shown.machine.q,
-               shown.machine.status);
+        printf("  %4" PRIu64 "  ", at);
+        print_panel(shown);
         machine = shown.machine;
     }
-    for (uint64_t at = job->words; at <= job->words + 1; at++)
+    for (uint64_t at = job->words; at <= job->words + 1; at++) {
+        am29332_stepped none = am29332_step(job->bytes, job->length, file,
+                                            job->registers, machine, at);
         print_outcome(at == job->words ? "step at the end" : "step past it",
-                      am29332_step(job->bytes, job->length, file,
-                                   job->registers, machine, at)
-                          .outcome);
+                      none.outcome);
+        printf("  none  ");
+        print_panel(none);
+    }
 }
 
 /* The sheet to its end, from a fresh machine. */
@@ -302,6 +321,14 @@ static void disturbed(const struct job *job, am29332_machine alone,
            memcmp(file, job->file, sizeof file) == 0 ? "no" : "yes");
 }
 
+/* What a single word leaves on Y and on the lamps. */
+static void print_answer(am29332_answer answer)
+{
+    printf("  Y %08" PRIX32 ", parity %" PRIX32 ", C Z N V L", answer.y,
+           answer.parity);
+    print_lamps(answer.pins);
+}
+
 /* A single word: example d of document 01, NOT-A on two bytes. */
 static void single_word(void)
 {
@@ -309,9 +336,18 @@ static void single_word(void)
         .opcode = AM29332_OP_NOT_A, .code = 2, .a = 0x12345678};
     am29332_answer answer = am29332_single_word(inputs);
     print_outcome("single word NOT-A, two bytes of 12345678", answer.outcome);
-    printf("  Y %08" PRIX32 ", parity %" PRIX32 ", N %d, Z %d\n", answer.y,
-           answer.parity, (answer.status & AM29332_STATUS_N) != 0,
-           (answer.status & AM29332_STATUS_Z) != 0);
+    print_answer(answer);
+}
+
+/* One that is refused: the lamps show the status that was handed in. */
+static void refused_word(void)
+{
+    am29332_inputs inputs = {.opcode = 0x1E,
+                             .status = AM29332_STATUS_C | AM29332_STATUS_N |
+                                       AM29332_STATUS_L};
+    am29332_answer answer = am29332_single_word(inputs);
+    print_outcome("single word 1E, which has no page", answer.outcome);
+    print_answer(answer);
 }
 
 /* Two numbers compared on one byte, as a branch is picked: SUB, and what its
@@ -367,6 +403,7 @@ int main(int count, char **arguments)
     }
     library();
     single_word();
+    refused_word();
     compare(0);
     compare(1);
     print_outcome("check of no bytes", am29332_check_sheet(NULL, 0));

@@ -52,7 +52,8 @@ static struct model_answer answer(am29332_inputs x)
 am29332_answer am29332_single_word(am29332_inputs x)
 {
     struct model_answer a = answer(x);
-    return (am29332_answer){{a.reason, a.place}, a.y, a.parity, a.q, a.status};
+    return (am29332_answer){{a.reason, a.place}, a.y, a.parity, a.q, a.status,
+                            a.pins};
 }
 
 am29332_outcome am29332_pack(am29332_word w, uint8_t *bytes, size_t length)
@@ -135,6 +136,16 @@ am29332_ran am29332_run(const uint8_t *sheet, size_t length, uint32_t *file,
     return (am29332_ran){outcome(v), {m.q, m.status}};
 }
 
+/* The pins that show a status. */
+static uint32_t pins(uint32_t status)
+{
+    return (status & AM29332_STATUS_C ? AM29332_PIN_C : 0) |
+           (status & AM29332_STATUS_Z ? AM29332_PIN_Z : 0) |
+           (status & AM29332_STATUS_N ? AM29332_PIN_N : 0) |
+           (status & AM29332_STATUS_V ? AM29332_PIN_V : 0) |
+           (status & AM29332_STATUS_L ? AM29332_PIN_L : 0);
+}
+
 /* The word's inputs are taken before it runs, and shown only if it ran. */
 am29332_stepped am29332_step(const uint8_t *sheet, size_t length,
                              uint32_t *file, size_t registers,
@@ -153,10 +164,11 @@ am29332_stepped am29332_step(const uint8_t *sheet, size_t length,
     am29332_ran ran = am29332_run(sheet, length, file, registers, machine,
                                   start, 1);
     if (ran.outcome.reason != AM29332_REASON_DONE || ran.outcome.place == 0)
-        shown = (struct model_answer){0};
+        shown = (struct model_answer){.pins = pins(ran.machine.status)};
     else
         ran.machine.status = shown.status; /* bit 13 by the word's own switch */
-    return (am29332_stepped){ran.outcome, shown.y, shown.parity, ran.machine};
+    return (am29332_stepped){ran.outcome, shown.y, shown.parity, ran.machine,
+                             shown.pins};
 }
 
 am29332_interrupted am29332_interrupted_run(

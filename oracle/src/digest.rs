@@ -23,6 +23,7 @@ fn fold(sum: u64, answer: &Answer) -> u64 {
         u32::from(answer.parity),
         answer.q,
         answer.status,
+        u32::from(answer.pins),
     ];
     values
         .iter()
@@ -39,22 +40,36 @@ struct Sums {
 
 /// So many cases are a block: CASES is a multiple.
 const BLOCK: u32 = 1_024;
+const BLOCKS: u32 = CASES / BLOCK;
 
-/// The sums of an opcode number as they stand after each block of cases.
-fn sums_by_block(opcode: u8, faults: &Faults) -> impl Iterator<Item = Sums> + '_ {
-    let mut single_sum = 1;
-    let mut board = Board::new();
-    (1..)
-        .zip(Draw::new(opcode))
-        .filter_map(move |(done, case)| {
-            single_sum = fold(single_sum, &single(&case.inputs, faults));
-            board.run(&case, faults);
-            let sums = Sums {
-                single: single_sum,
-                run: board.sum,
-            };
-            u32::is_multiple_of(done, BLOCK).then_some(sums)
-        })
+/// The line of an opcode number in the making.
+#[derive(Clone)]
+struct Line {
+    draw: Draw,
+    single: u64,
+    board: Board,
+}
+
+impl Line {
+    fn new(opcode: u8) -> Line {
+        Line {
+            draw: Draw::new(opcode),
+            single: 1,
+            board: Board::new(),
+        }
+    }
+
+    /// The sums as they stand after one more block of cases.
+    fn block(&mut self, faults: &Faults) -> Sums {
+        for case in self.draw.by_ref().take(BLOCK as usize) {
+            self.single = fold(self.single, &single(&case.inputs, faults));
+            self.board.run(&case, faults);
+        }
+        Sums {
+            single: self.single,
+            run: self.board.sum,
+        }
+    }
 }
 
 /// Work for each opcode number 0 to 127, shared between two threads.
@@ -73,7 +88,10 @@ fn for_each_opcode<T: Send>(work: impl Fn(u8) -> T + Sync) -> Vec<T> {
 /// The digest text: `OO DDDDDDDDDDDDDDDD RRRRRRRRRRRRRRRR`, a line for each
 /// number 0 to 127.
 pub fn digest_text() -> String {
-    let sums = for_each_opcode(|opcode| sums_by_block(opcode, &Faults::none()).last());
+    let sums = for_each_opcode(|opcode| {
+        let mut line = Line::new(opcode);
+        (0..BLOCKS).map(|_| line.block(&Faults::none())).last()
+    });
     let mut text = String::new();
     for (opcode, sums) in sums.into_iter().enumerate() {
         let Sums { single, run } = sums.expect("the last block");
@@ -122,7 +140,7 @@ fn is_spread(opcode: u8, i: u32) -> bool {
     i % block == (j * 933 + u32::from(opcode) * 37) % block
 }
 
-/// One line of the vectors, 92 characters and a newline.
+/// One line of the vectors, 95 characters and a newline.
 fn vector_line(inputs: &Inputs, answer: &Answer) -> String {
     let small = [
         inputs.opcode,
@@ -144,39 +162,47 @@ fn vector_line(inputs: &Inputs, answer: &Answer) -> String {
     write!(line, "{:02X} {:02X} ", answer.reason, answer.parity).expect("text");
     writeln!(
         line,
-        "{:08X} {:08X} {:08X}",
-        answer.y, answer.q, answer.status
+        "{:08X} {:08X} {:08X} {:02X}",
+        answer.y, answer.q, answer.status, answer.pins
     )
     .expect("text");
     line
 }
 
-/// A line without faults: its sums by block, and which faults were asked about.
+/// A block of a line without faults: the line before it, the sums after it, and
+/// which faults were asked about in it.
 struct Right {
-    sums: Vec<Sums>,
+    before: Line,
+    after: Sums,
     asked: Vec<bool>,
 }
 
 impl Right {
-    fn of_opcode(opcode: u8) -> Right {
-        let faults = Faults::none();
-        Right {
-            sums: sums_by_block(opcode, &faults).collect(),
-            asked: IN_WORDS.iter().map(|&(f, _)| faults.was_asked(f)).collect(),
-        }
+    fn of_opcode(opcode: u8) -> Vec<Right> {
+        let mut line = Line::new(opcode);
+        let mut block = || {
+            let faults = Faults::none();
+            Right {
+                before: line.clone(),
+                after: line.block(&faults),
+                asked: IN_WORDS.iter().map(|&(f, _)| faults.was_asked(f)).collect(),
+            }
+        };
+        (0..BLOCKS).map(|_| block()).collect()
     }
+}
 
-    /// The first sums that a fault changes. A sum that differs once comes out
-    /// the same again only by chance, so the rest of the line is not made.
-    fn first_change(&self, opcode: u8, fault: Fault) -> Option<(Sums, Sums)> {
-        let planted = Faults::plant(fault);
-        let mut both = self
-            .sums
-            .iter()
-            .copied()
-            .zip(sums_by_block(opcode, &planted));
-        both.find(|(right, wrong)| right != wrong)
-    }
+/// The first sums of a line that a fault changes. Up to the first block in which
+/// the model asked about it the line is the same with it. A sum that differs once
+/// comes out the same again only by chance, so the rest of the line is not made.
+fn first_change(line: &[Right], i: usize, fault: Fault) -> Option<(Sums, Sums)> {
+    let from = line.iter().position(|block| block.asked[i])?;
+    let planted = Faults::plant(fault);
+    let mut made = line[from].before.clone();
+    line[from..]
+        .iter()
+        .map(|right| (right.after, made.block(&planted)))
+        .find(|(right, wrong)| right != wrong)
 }
 
 /// Plants each fault in turn and prints the opcode numbers whose digest lines
@@ -204,15 +230,10 @@ struct Changed {
     single: bool,
 }
 
-/// The lines that differ. A line in whose making the model never asked about
-/// the fault is the same with it, and is not made again.
-fn changed_lines(fault: Fault, right: &[Right], i: usize) -> Vec<Changed> {
+/// The lines that differ.
+fn changed_lines(fault: Fault, right: &[Vec<Right>], i: usize) -> Vec<Changed> {
     let changed = for_each_opcode(|opcode| {
-        let line = &right[usize::from(opcode)];
-        if !line.asked[i] {
-            return None;
-        }
-        let (right, wrong) = line.first_change(opcode, fault)?;
+        let (right, wrong) = first_change(&right[usize::from(opcode)], i, fault)?;
         let single = right.single != wrong.single;
         Some(Changed { opcode, single })
     });

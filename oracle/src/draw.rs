@@ -80,6 +80,7 @@ pub struct Case {
 }
 
 /// The cases of one opcode number, in order.
+#[derive(Clone)]
 pub struct Draw {
     opcode: u8,
     x: u64,

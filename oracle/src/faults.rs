@@ -86,7 +86,22 @@ IN_WORDS {
     ParityOdd: "odd parity",
     RefusalsSwapped: "Inputs refused before Opcode",
     RefusalWorksOutStatus: "a refusal works out the status bits",
+    RefusedPinsZero: "a refused word's pins 0",
+    RefusedPinsOfTheWord: "a refused word's pins as if it had run",
     AnswerInCarryMode: "a single word's answer in carry mode whatever borrow says",
+    PinsZAndNExchanged: "pins: Z and N exchanged",
+    PinsCAndLExchanged: "pins: C and L exchanged",
+    PinsReversed: "pins in the order L V N Z C",
+    PinsAsStatusBits: "pins in the order of status bits 20 to 16",
+    PinsAsPagesPrint: "pins in the pages' order Z N C V L",
+    PinLLeftOut: "pins without L",
+    PinsOfTheWordBefore: "pins of the status handed in",
+    PinLeftAloneZero: "pins: a flag that the word leaves alone as 0",
+    ExtbitStatPinZ: "EXTBIT-STAT: the Z pin by the page's list",
+    PutStatPinsKept: "SETBIT-STAT, RSTBIT-STAT: no pin changes",
+    LdstatPinsWhole: "LDSTAT: the operand's flags on the pins whatever the byte code",
+    PinZOfTheWholeY: "pins: Z of the whole Y whatever the page says",
+    PinCTurnedByBorrow: "pins: C turned over in borrow mode",
     WriteIgnored: "a run stores Y whatever write says",
     StoredToB: "a run stores Y in B's register",
     RegisterOfFiveBits: "a run takes five bits of a register field",
@@ -102,6 +117,9 @@ IN_WORDS {
 /// Faults of the trace program's text, which the longest trace notices.
 IN_TRACES {
     TraceInCarryMode: "a trace's line in carry mode whatever borrow says",
+    TracePinsOfTheWordBefore: "a trace's line with the pins of the line before",
+    TracePinsReversed: "a trace's pins in the order L V N Z C",
+    TracePinsUnpadded: "a trace's pins without leading zeros",
 }
 
 /// Faults of the interrupted run, which the gate's interrupted runs notice.

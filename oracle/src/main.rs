@@ -22,6 +22,7 @@ mod multiply;
 mod on_registers;
 mod pages;
 mod pairs;
+mod pins;
 mod random_texts;
 mod reader;
 mod run;

@@ -30,6 +30,7 @@ use crate::sheet::{pack, Word, HEADER, WORD};
 use crate::word::Inputs;
 
 /// The registers of an opcode's line, and the sum so far.
+#[derive(Clone)]
 pub struct Board {
     file: [u32; 64],
     pub sum: u64,

@@ -34,19 +34,40 @@ fn check_input(input: &[u8]) -> Result<Header, Verdict> {
     Ok(header)
 }
 
-/// Each line has the status as its own word reads it.
+/// Each line has the status as its own word reads it, and the pins as digits, C
+/// first.
 fn run_and_print(input: &[u8], header: Header, text: &mut String, faults: &Faults) -> Verdict {
     let mut file = registers(&input[HEADER + WORD * header.count..]);
     let mut machine = Machine::default();
+    let mut before = 0;
     for i in 0..header.count {
-        let y = step(&word_at(input, i), &mut file, &mut machine, faults).y;
+        let answer = step(&word_at(input, i), &mut file, &mut machine, faults);
+        let y = answer.y;
         let Machine { q, status } = match faults.has(Fault::TraceInCarryMode) {
             true => settled(machine, Mode::Carry, faults),
             false => machine,
         };
-        writeln!(text, "{i:04X} {y:08X} {q:08X} {status:08X}").expect("text");
+        let digits = digits(answer.pins, before, faults);
+        writeln!(text, "{i:04X} {y:08X} {q:08X} {status:08X} {digits}").expect("text");
+        before = answer.pins;
     }
     refuse(reason::DONE, header.count)
+}
+
+/// The pins of a line; a fault may take those of the line before.
+fn digits(pins: u8, before: u8, faults: &Faults) -> String {
+    let pins = match faults.has(Fault::TracePinsOfTheWordBefore) {
+        true => before,
+        false => pins,
+    };
+    if faults.has(Fault::TracePinsUnpadded) {
+        return format!("{pins:b}");
+    }
+    let digits = format!("{pins:05b}");
+    match faults.has(Fault::TracePinsReversed) {
+        true => digits.chars().rev().collect(),
+        false => digits,
+    }
 }
 
 fn registers(bytes: &[u8]) -> Vec<u32> {

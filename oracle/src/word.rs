@@ -4,6 +4,7 @@ use crate::bits::{from_number, to_number, Bits};
 use crate::cycle::Cycle;
 use crate::faults::{Fault, Faults};
 use crate::pages::{has_page, perform};
+use crate::pins;
 use crate::status::{Mode, Status};
 
 /// The numbers of document 01's table of reasons, and those that document 02's
@@ -54,6 +55,8 @@ pub struct Answer {
     pub parity: u8,
     pub q: u32,
     pub status: u32,
+    /// Five bits: C in bit 4, then Z, N, V, L.
+    pub pins: u8,
 }
 
 /// Runs one word, or refuses it: first 1 Opcode, then 2 Inputs.
@@ -90,7 +93,8 @@ pub fn out_of_range(inputs: &Inputs) -> bool {
         || inputs.borrow > 1
 }
 
-/// A refusal repeats Q and status bit for bit, with Y and parity 0.
+/// A refusal repeats Q and status bit for bit, with Y and parity 0; the pins show
+/// that status.
 fn refused(inputs: &Inputs, reason: u8, faults: &Faults) -> Answer {
     let mut status = inputs.status;
     if faults.has(Fault::RefusalWorksOutStatus) {
@@ -103,7 +107,20 @@ fn refused(inputs: &Inputs, reason: u8, faults: &Faults) -> Answer {
         parity: 0,
         q: inputs.q,
         status,
+        pins: refused_pins(inputs, faults),
     }
+}
+
+fn refused_pins(inputs: &Inputs, faults: &Faults) -> u8 {
+    if faults.has(Fault::RefusedPinsZero) {
+        return 0;
+    }
+    if faults.has(Fault::RefusedPinsOfTheWord) && has_page(inputs.opcode) {
+        let cycle = cycle_of(inputs, faults);
+        let out = perform(inputs.opcode, &cycle);
+        return pins::after(inputs.opcode, &cycle, &out);
+    }
+    pins::standing(inputs.status, faults)
 }
 
 /// The answer's status is read as the word itself reads it.
@@ -118,6 +135,7 @@ fn accepted(inputs: &Inputs, faults: &Faults) -> Answer {
         parity: parity(&out.y, faults),
         q: to_number(&out.q),
         status: to_number(&status),
+        pins: pins::after(inputs.opcode, &cycle, &out),
     }
 }
 

@@ -19,9 +19,10 @@ use Rattle.am29332.specs.declared.Ran.{Ran}
 use Rattle.am29332.specs.declared.Stepped.{Stepped}
 use Rattle.am29332.specs.declared.Interrupted.{Interrupted}
 
--- a single word's answer: Y, parity, Q and status besides
+-- a single word's answer: Y, parity, Q, status and pins besides
 abbrev pub singleNumbers : SingleAnswer → Answer
-singleNumbers a = record { outcome = outcomeOf (a .reason) (a .place); y = a .y; parity = a .parity; q = a .q; status = a .status }
+singleNumbers a =
+    record { outcome = outcomeOf (a .reason) (a .place); y = a .y; parity = a .parity; q = a .q; status = a .status; pins = a .pins }
 
 -- an unpacked word: its fields besides
 abbrev pub unpackNumbers : UnpackedWord → Unpacked
@@ -51,11 +52,17 @@ wroteNumbers w = leaves (record { outcome = checkNumbers (w .answer .check); byt
 abbrev pub runNumbers : Ended → Leaves Ran
 runNumbers e = leaves (record { outcome = outcomeOf (e .answer .reason) (e .answer .place); machine = e .answer .machine }) (e .file)
 
--- one word of a sheet: Y and parity besides
+-- one word of a sheet: Y, parity and pins besides
 abbrev pub stepNumbers : Halted → Leaves Stepped
 stepNumbers e =
     leaves
-    (record { outcome = outcomeOf (e .answer .reason) (e .answer .place); y = e .answer .y; parity = e .answer .parity; machine = e .answer .machine })
+    (record {
+      outcome = outcomeOf (e .answer .reason) (e .answer .place);
+      y = e .answer .y;
+      parity = e .answer .parity;
+      machine = e .answer .machine;
+      pins = e .answer .pins;
+    })
     (e .file)
 
 -- an interrupted run: the mark besides

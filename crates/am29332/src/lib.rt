@@ -8,6 +8,7 @@ ghost use mathlib.Core.Path.{_≡_};
 ghost use Prim.Native.Nat.{ℕ, _+_};
 ghost use Rattle.reasons.specs.Reasons.{checkNumbers};
 ghost use Rattle.machine.specs.Core.{freshOf};
+ghost use Rattle.machine.specs.Pins.{pinsIn};
 ghost use Rattle.chip.specs.Single.{singleOf};
 ghost use Rattle.packing.specs.Packing.{packOf, unpackOf};
 ghost use Rattle.sheet.specs.Sheet.{checkOf};
@@ -23,7 +24,7 @@ ghost use Rattle.interrupt.specs.Demand3.{NoTrace};
 ghost use Rattle.am29332.specs.Numbers.{singleNumbers, packNumbers, unpackNumbers, headingNumbers, wroteNumbers, runNumbers, stepNumbers, interruptedNumbers, leaves};
 ghost use Rattle.am29332.specs.Version.{libraryVersion};
 
-// What a single word answers. The parity has a bit for each byte of Y, the highest byte's in bit 3.
+// What a single word answers. The parity has a bit for each byte of Y, the highest byte's in bit 3; the pins C, Z, N, V and L are bits 4 to 0.
 #[repr(C)]
 pub struct Answer {
     pub outcome: Outcome,
@@ -31,6 +32,7 @@ pub struct Answer {
     pub parity: u32,
     pub q: u32,
     pub status: u32,
+    pub pins: u32,
 }
 
 // What unpacking answers.
@@ -63,13 +65,14 @@ pub struct Ran {
     pub machine: Machine,
 }
 
-// What one word of a sheet answers: Y and its parity as a single word's, Q and status those to go on from.
+// What one word of a sheet answers: Y, its parity and the pins as a single word's, Q and status those to go on from.
 #[repr(C)]
 pub struct Stepped {
     pub outcome: Outcome,
     pub y: u32,
     pub parity: u32,
     pub machine: Machine,
+    pub pins: u32,
 }
 
 // What an interrupted run answers. The mark says which sheet the fault is in: 0 neither, 1 main, 2 handler.
@@ -85,7 +88,7 @@ pub struct Interrupted {
 pub extern "C" fn am29332_library_version() -> u32
     ensures { λ r. ⌜ r ≡ libraryVersion ⌝ }
 {
-    0x02_00_00
+    0x03_00_00
 }
 
 // A fresh machine.
@@ -100,6 +103,7 @@ pub extern "C" fn am29332_fresh() -> Machine
 #[no_mangle]
 pub extern "C" fn am29332_single_word(inputs: SingleWord) -> Answer
     ensures { λ r. ⌜ r ≡ singleNumbers (singleOf inputs) ⌝ }
+    ensures pins { λ r. ⌜ r .pins ≡ pinsIn (r .status) ⌝ }
 {
     let answer = chip::single_word(inputs);
     let reason = answer.reason;
@@ -109,6 +113,7 @@ pub extern "C" fn am29332_single_word(inputs: SingleWord) -> Answer
         parity: answer.parity,
         q: answer.q,
         status: answer.status,
+        pins: answer.pins,
     }
 }
 
@@ -222,6 +227,7 @@ pub extern "C" fn am29332_step(
     start: u64,
 ) -> Stepped
     ensures { λ r. ⌜ leaves r (now (file .exit)) ≡ stepNumbers (oneWordOf (now (sheet .entry)) (now (file .entry)) machine start) ⌝ }
+    ensures pins { λ r. ⌜ r .pins ≡ pinsIn (r .machine .status) ⌝ }
 {
     let answer = run::one_word(sheet, file, machine, start as usize);
     let reason = answer.reason;
@@ -231,6 +237,7 @@ pub extern "C" fn am29332_step(
         y: answer.y,
         parity: answer.parity,
         machine: after,
+        pins: answer.pins,
     }
 }
 

@@ -1,7 +1,10 @@
--- The single word's table of reasons, row by row; and that no second answer meets its promise.
-use mathlib.Core.Path.{_≡_, refl, sym, ap, ap₂, _∙_}
+-- The single word's table of reasons, row by row; that its pins are bits of its status; and that no second answer meets its promise.
+use mathlib.Core.Path.{_≡_, refl, sym, ap, ap₂, subst, _∙_}
 use mathlib.Core.List.{[], _∷_}
 use mathlib.Core.Bool.{Bool, true, false}
+use Prim.Native.Nat.{_^_, _<_}
+use Rattle.machine.specs.Pins.{pinsIn}
+use Rattle.machine.proofs.Pins.{pins-loaded, pins-read}
 use Rattle.reasons.specs.declared.Reason.the-variants.{Opcode as NoOpcode, Inputs as BadInputs}
 use Rattle.reasons.specs.Reasons.{_gives_at_, firstOf, outcomeOf, checkNumbers}
 use Rattle.chip.specs.declared.SingleWord.{SingleWord}
@@ -11,8 +14,10 @@ use Rattle.chip.specs.declared.Decoded.the-variants.{Known, Opcode}
 use Rattle.chip.specs.Glossary.{Page, pageOf}
 use Rattle.chip.specs.Glossary.Page.{page, no-page}
 use Rattle.chip.specs.Operations.{decodedOf}
-use Rattle.chip.specs.Single.{noPage, lacksPage, outOfRange, singleShown, performed, refusedAs, unless, singleOf, singleOutcome}
+use Rattle.chip.specs.Single.{noPage, lacksPage, outOfRange, singleInputs, singleShown, performed, refusedAs, unless, singleOf, singleOutcome}
 use Rattle.chip.proofs.Pages.{pageFor, page-decoded}
+use Rattle.chip.proofs.Range.{in-range}
+use Rattle.chip.proofs.Kept.{perform-kept}
 
 module _ (s : SingleWord) where
   -- the answer, from the page of the opcode and the test of the inputs
@@ -52,6 +57,22 @@ module _ (s : SingleWord) where
   numbers-by (page f) false = refl
   numbers-by no-page t = refl
 
-  pub in-numbers : (r : SingleAnswer) → r ≡ singleOf s → (r ≡ singleOf s) × (outcomeOf (r .reason) (r .place) ≡ singleOutcome s)
+  in-numbers : (r : SingleAnswer) → r ≡ singleOf s → outcomeOf (r .reason) (r .place) ≡ singleOutcome s
   unfolding tested lacksPage
-  in-numbers r e = (e, ap (λ (a : SingleAnswer). outcomeOf (a .reason) (a .place)) (e ∙ sym from-rows) ∙ numbers-by (pageOf (s .opcode)) tested)
+  in-numbers r e = ap (λ (a : SingleAnswer). outcomeOf (a .reason) (a .place)) (e ∙ sym from-rows) ∙ numbers-by (pageOf (s .opcode)) tested
+
+  -- the pins are those five bits of the status answered, of every word and of every refusal; A, B and Q have 32 bits
+  module _ (a : s .a < 2 ^ 32) (b : s .b < 2 ^ 32) (q : s .q < 2 ^ 32) where
+    pins-by : (p : Page) (t : Bool) → tested ≡ t → by-rows p t .pins ≡ pinsIn (by-rows p t .status)
+    unfolding by-rows tested
+    pins-by (page f) true e = pins-loaded (s .status)
+    pins-by (page f) false e = pins-read (s .borrow) (singleShown s .core .status) (perform-kept (singleInputs s) (in-range s e) a b q (s .opcode) .status)
+    pins-by no-page t e = pins-loaded (s .status)
+
+    pub single-pins : singleOf s .pins ≡ pinsIn (singleOf s .status)
+    single-pins = subst (λ (r : SingleAnswer). r .pins ≡ pinsIn (r .status)) from-rows (pins-by (pageOf (s .opcode)) tested refl)
+
+    -- all that the promise says of an answer, once it is that of the definition
+    pub promised : (r : SingleAnswer) → r ≡ singleOf s
+        → (r ≡ singleOf s) × ((outcomeOf (r .reason) (r .place) ≡ singleOutcome s) × (r .pins ≡ pinsIn (r .status)))
+    promised r e = (e, (in-numbers r e, subst (λ (x : SingleAnswer). x .pins ≡ pinsIn (x .status)) (sym e) single-pins))

@@ -8,6 +8,8 @@ use Rattle.machine.specs.declared.Inputs.{Inputs}
 use Rattle.machine.specs.declared.Core.{Core}
 use Rattle.machine.specs.declared.Shown.{Shown}
 use Rattle.machine.specs.Core.{taken, shownBy, shownStatus}
+use Rattle.machine.specs.Status.{loaded}
+use Rattle.machine.specs.Pins.{pinsOf}
 use Rattle.reasons.specs.declared.Reason.{Reason}
 use Rattle.reasons.specs.declared.Reason.the-variants.{Done, Opcode, Inputs as InputsReason}
 use Rattle.reasons.specs.declared.Check.{Check}
@@ -61,14 +63,15 @@ singleInputs s =
 abbrev pub singleShown : SingleWord → Shown
 singleShown s = shownBy (s .borrow) (performOf (s .opcode) (singleInputs s))
 
--- Y, its parity, Q and the status as the word itself reads it
+-- Y, its parity, Q, the status as the word itself reads it, and the pins
 abbrev pub performed : Shown → SingleAnswer
 performed x =
-    record { reason = Done; place = 0; y = x .y; parity = parityOf (x .y); q = x .core .q; status = shownStatus x }
+    record { reason = Done; place = 0; y = x .y; parity = parityOf (x .y); q = x .core .q; status = shownStatus x; pins = pinsOf (x .core .status) }
 
--- a refusal repeats the Q and status handed in, bit for bit, with Y and parity 0
+-- a refusal repeats the Q and status handed in, bit for bit, with Y and parity 0; the pins show that status
 abbrev pub refusedAs : Reason → SingleWord → SingleAnswer
-refusedAs r s = record { reason = r; place = 0; y = 0; parity = 0; q = s .q; status = s .status }
+refusedAs r s =
+    record { reason = r; place = 0; y = 0; parity = 0; q = s .q; status = s .status; pins = pinsOf (loaded (s .status)) }
 
 abbrev pub unless : Check → SingleWord → SingleAnswer
 unless Good s = performed (singleShown s)

@@ -2,11 +2,13 @@
 use machine::Inputs;
 use machine::Machine;
 use machine::Outputs;
+use machine::Status;
 use reasons::Reason;
 ghost use mathlib.Core.Path.{_≡_};
 ghost use lib.ListN.{getD};
 ghost use Rattle.reasons.specs.Reasons.{outcomeOf};
 ghost use Rattle.machine.specs.Inputs.{Sound};
+ghost use Rattle.machine.specs.Pins.{pinsIn};
 ghost use Rattle.arithmetic.specs.Arithmetic.{SUBRC};
 ghost use Rattle.chip.specs.Operations.{decodedOf, basics, meaningOf};
 ghost use Rattle.chip.specs.declared.Decoded.the-variants.{Known};
@@ -48,7 +50,7 @@ pub struct SingleWord {
     pub status: u32,
 }
 
-// Its answer. The parity has a bit for each byte of Y, the highest byte's in bit 3.
+// Its answer. The parity has a bit for each byte of Y, the highest byte's in bit 3; the pins C, Z, N, V and L are bits 4 to 0.
 pub struct SingleAnswer {
     pub reason: Reason,
     pub place: usize,
@@ -56,6 +58,7 @@ pub struct SingleAnswer {
     pub parity: u32,
     pub q: u32,
     pub status: u32,
+    pub pins: u32,
 }
 
 // An operation with a page in chapter 2: its family, and its place there. `Basic` are the instructions of the data movement, logical,
@@ -188,7 +191,7 @@ pub fn out_of_range(
         | (1 < borrow)
 }
 
-// A refusal repeats Q and status as they were handed in.
+// A refusal repeats Q and status as they were handed in, and its pins show that status.
 fn refuse(word: SingleWord, reason: Reason) -> SingleAnswer
     ensures { λ r. ⌜ r ≡ refusedAs reason word ⌝ }
 {
@@ -199,6 +202,7 @@ fn refuse(word: SingleWord, reason: Reason) -> SingleAnswer
         parity: 0,
         q: word.q,
         status: word.status,
+        pins: Status::pins_in(word.status),
     }
 }
 
@@ -234,6 +238,8 @@ fn answer(operation: Operation, s: SingleWord) -> SingleAnswer
 {
     let x = inputs(s);
     let shown = perform(operation, x).shown(s.borrow);
+    let core = shown.core;
+    let after = core.status;
     SingleAnswer {
         reason: Reason::Done,
         place: 0,
@@ -241,6 +247,7 @@ fn answer(operation: Operation, s: SingleWord) -> SingleAnswer
         parity: bits::parity(shown.y),
         q: shown.core.q,
         status: shown.status(),
+        pins: after.pins(),
     }
 }
 
@@ -263,10 +270,11 @@ fn admit(operation: Operation, s: SingleWord) -> SingleAnswer
     answer(operation, s)
 }
 
-// The single word, with any values: refused with its reason, or Y, parity, Q and status.
+// The single word, with any values: refused with its reason, or Y, parity, Q, status and pins.
 pub fn single_word(s: SingleWord) -> SingleAnswer
     ensures { λ r. ⌜ r ≡ singleOf s ⌝ }
     ensures numbers { λ r. ⌜ outcomeOf (r .reason) (r .place) ≡ singleOutcome s ⌝ }
+    ensures pins { λ r. ⌜ r .pins ≡ pinsIn (r .status) ⌝ }
 {
     match decode(s.opcode) {
         Decoded::Opcode => refuse(s, Reason::Opcode),

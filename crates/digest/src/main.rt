@@ -17,13 +17,14 @@ pub struct Sums {
     pub run: u64,
 }
 
-// The sum after an answer of the single word: reason, place, Y, parity, Q and status.
+// The sum after an answer of the single word: reason, place, Y, parity, Q, status and pins.
 fn answered(sum: u64, answer: SingleAnswer) -> u64 {
     let reason = answer.reason;
     let after_reason = draw::fold(sum, reasons::number(reason));
     let after_place = draw::fold(after_reason, (answer.place % 0x1_0000_0000) as u32);
     let after_parity = draw::fold(draw::fold(after_place, answer.y), answer.parity);
-    draw::fold(draw::fold(after_parity, answer.q), answer.status)
+    let after_status = draw::fold(draw::fold(after_parity, answer.q), answer.status);
+    draw::fold(after_status, answer.pins)
 }
 
 // Both sums after one case more.

@@ -2,3 +2,4 @@
 pub mod Status
 pub mod Inputs
 pub mod Core
+pub mod Pins

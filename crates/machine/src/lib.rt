@@ -5,6 +5,7 @@ ghost use Rattle.bits.specs.Bits.{choose};
 ghost use Rattle.machine.specs.Status.{workedOut, gathered, spreadOut, asRead, loaded, Good};
 ghost use Rattle.machine.specs.Inputs.{bitsOf, positionOf, widthOf, carryIn, linkIn, readBy, fullWidth, result, Sound};
 ghost use Rattle.machine.specs.Core.{freshOf, taken, handedBack, shownBy, shownStatus};
+ghost use Rattle.machine.specs.Pins.{pinsOf};
 
 // The borrow switch of carry mode, in which runs hand the status register back; that of borrow mode is 1.
 const CARRY_MODE: u32 = 0;
@@ -216,6 +217,22 @@ impl Status {
             + self.m * Self::M
             + self.s * Self::S
             + gather(self.nibbles)
+    }
+
+    // The pins C, Z, N, V and L, as five bits in that order: what a front panel shows of the register after a word.
+    pub fn pins(self) -> u32
+        requires { ⌜ Good self ⌝ }
+        ensures { λ r. ⌜ r ≡ pinsOf self ⌝ }
+    {
+        self.c * 16 + self.z * 8 + self.n * 4 + self.v * 2 + self.l
+    }
+
+    // Those that a status word shows where no word ran.
+    pub fn pins_in(x: u32) -> u32
+        ensures { λ r. ⌜ r ≡ pinsOf (loaded x) ⌝ }
+    {
+        let status = Self::load(x);
+        status.pins()
     }
 }
 

@@ -1,7 +1,8 @@
--- One word of a sheet by itself: the ways in which it ends, that it is a run of one word, and that it has one outcome.
-use mathlib.Core.Path.{_≡_, refl, ap, ap₂, sym, _∙_}
+-- One word of a sheet by itself: the ways in which it ends, that its pins are bits of its status, that it is a run of one word, and that it has
+-- one outcome.
+use mathlib.Core.Path.{_≡_, refl, ap, ap₂, sym, subst, _∙_}
 use mathlib.Core.List.{List, [], _∷_}
-use Prim.Native.Nat.{ℕ, zero, suc, _^_, _≤_, _<_}
+use Prim.Native.Nat.{ℕ, zero, suc, _^_, _<_}
 use native.Mathlib.Omega.{arith}
 use borrow.Author.Tests.{le-ltb}
 use lib.ListN.{length, set, take, drop}
@@ -11,8 +12,10 @@ use Rattle.machine.specs.declared.Core.{Core}
 use Rattle.machine.specs.declared.Status.{Status}
 use Rattle.machine.specs.declared.Shown.{Shown}
 use Rattle.machine.specs.Core.{taken, handedBack}
+use Rattle.machine.specs.Pins.{pinsIn}
 use Rattle.machine.proofs.Round.{loaded-read}
 use Rattle.machine.proofs.Handed.{taken-back, taken-good}
+use Rattle.machine.proofs.Pins.{pins-loaded}
 use Rattle.reasons.specs.declared.Reason.{Reason}
 use Rattle.reasons.specs.declared.Reason.the-variants.{Done}
 use Rattle.reasons.specs.declared.Check.{Check}
@@ -24,6 +27,7 @@ use Rattle.chip.specs.declared.SingleAnswer.{SingleAnswer}
 use Rattle.chip.specs.Single.{outOfRange, performed, singleOf}
 use Rattle.chip.specs.Lists.{readAt, written, shownOf, stepOf, execs}
 use Rattle.chip.proofs.Files.{store-is}
+use Rattle.chip.proofs.Single.{single-pins}
 use Rattle.sheet.specs.Sheet.{executionsOf, checkOf, WordReady}
 use Rattle.sheet.specs.declared.Given.the-variants.{Number}
 use Rattle.sheet.proofs.Positions.{All, all-drop}
@@ -71,7 +75,7 @@ abbrev pub inCarryMode : Check → Machine → Machine
 inCarryMode Passed m = handedBack (taken m)
 inCarryMode (Bad r p) m = m
 
--- what a run answers of a step: Y and parity are not told
+-- what a run answers of a step: Y, parity and pins are not told
 abbrev pub asRun : Check → Halted → Ended
 asRun c h = ended (record { reason = h .answer .reason; place = h .answer .place; machine = inCarryMode c (h .answer .machine) }) (h .file)
 
@@ -87,11 +91,9 @@ module _ (s file : List ℕ) (m : Machine) (start : ℕ) where
   step-is ws e d = sym (ap₂ (λ (c : Check) (l : List Word). unless c file m (firstOn l file m)) e d)
 
   -- its reason and place have the numbers of a run with an allowance of 1
-  pub step-numbers : (h : Halted) → h ≡ oneWordOf s file m start
-      → (h ≡ oneWordOf s file m start) × (outcomeOf (h .answer .reason) (h .answer .place) ≡ runOutcome s (length file) start 1)
+  step-numbers : (h : Halted) → h ≡ oneWordOf s file m start → outcomeOf (h .answer .reason) (h .answer .place) ≡ runOutcome s (length file) start 1
   unfolding oneWordOf
-  step-numbers h e =
-      (e, ap numbered e ∙ go (checkOf s (Number (length file)) (Number start)) (drop start (executionsOf s)))
+  step-numbers h e = ap numbered e ∙ go (checkOf s (Number (length file)) (Number start)) (drop start (executionsOf s))
     where
       numbered : Halted → Outcome
       numbered x = outcomeOf (x .answer .reason) (x .answer .place)
@@ -100,6 +102,27 @@ module _ (s file : List ℕ) (m : Machine) (start : ℕ) where
       go Passed [] = refl
       go Passed (w ∷ ws) = refl
       go (Bad r p) ws = refl
+
+  module _ (registers : (r : ℕ) → readAt file r < 2 ^ 32) (q : m .q < 2 ^ 32) where
+    -- its pins are those five bits of the status that it answers, whether a word ran or none
+    pub step-pins : oneWordOf s file m start .answer .pins ≡ pinsIn (oneWordOf s file m start .answer .machine .status)
+    unfolding oneWordOf
+    step-pins = go (checkOf s (Number (length file)) (Number start)) (drop start (executionsOf s))
+      where
+        shows : Halted → Type 0
+        shows h = h .answer .pins ≡ pinsIn (h .answer .machine .status)
+
+        go : (c : Check) (ws : List Word) → shows (unless c file m (firstOn ws file m))
+        go Passed [] = pins-loaded (handedBack (taken m) .status)
+        go Passed (w ∷ ws) = single-pins (standing w file m) (registers (w .a)) (registers (w .b)) q
+        go (Bad r p) ws = pins-loaded (m .status)
+
+    -- all that the promise says of an outcome, once it is that of the definition
+    pub promised : (h : Halted) → h ≡ oneWordOf s file m start
+        → (h ≡ oneWordOf s file m start)
+        × ((outcomeOf (h .answer .reason) (h .answer .place) ≡ runOutcome s (length file) start 1) × (h .answer .pins ≡ pinsIn (h .answer .machine .status)))
+    promised h e =
+        (e, (step-numbers h e, subst (λ (x : Halted). x .answer .pins ≡ pinsIn (x .answer .machine .status)) (sym e) step-pins))
 
   -- It is a run of one word: file, Q, reason and place are those of a run with an allowance of 1, and so is the status, read in carry mode.
   pub step-runs : ((r : ℕ) → readAt file r < 2 ^ 32) → m .q < 2 ^ 32

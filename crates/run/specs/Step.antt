@@ -4,6 +4,8 @@ use Prim.Native.Nat.{ℕ}
 use lib.ListN.{length, drop}
 use Rattle.machine.specs.declared.Machine.{Machine}
 use Rattle.machine.specs.Core.{taken, handedBack}
+use Rattle.machine.specs.Status.{loaded}
+use Rattle.machine.specs.Pins.{pinsOf}
 use Rattle.reasons.specs.declared.Reason.{Reason}
 use Rattle.reasons.specs.declared.Reason.the-variants.{Done}
 use Rattle.reasons.specs.declared.Check.{Check}
@@ -26,9 +28,9 @@ abbrev pub halted : StepAnswer → List ℕ → Halted
 halted a file = record { answer = a; file = file }
 
 -- ---- no word ran
--- Y and parity are 0
+-- Y and parity are 0, and the pins show the status
 abbrev pub idle : Reason → ℕ → Machine → StepAnswer
-idle reason place m = record { reason = reason; place = place; y = 0; parity = 0; machine = m }
+idle reason place m = record { reason = reason; place = place; y = 0; parity = 0; machine = m; pins = pinsOf (loaded (m .status)) }
 
 -- ---- a word ran
 -- what stands at the chip: the word's fields, the registers that it names as A and B, Q and status as they were handed in
@@ -49,9 +51,10 @@ standing w file m =
       status = m .status;
     }
 
--- Y, parity, Q and status are the single word's
+-- Y, parity, Q, status and pins are the single word's
 abbrev pub ranAs : SingleAnswer → StepAnswer
-ranAs a = record { reason = Done; place = 1; y = a .y; parity = a .parity; machine = record { q = a .q; status = a .status } }
+ranAs a =
+    record { reason = Done; place = 1; y = a .y; parity = a .parity; machine = record { q = a .q; status = a .status }; pins = a .pins }
 
 -- and Y is stored only when write is 1
 abbrev pub leftBy : Word → List ℕ → SingleAnswer → Halted

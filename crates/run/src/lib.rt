@@ -5,6 +5,7 @@ use machine::Core;
 use machine::Inputs;
 use machine::Machine;
 use machine::Shown;
+use machine::Status;
 use reasons::Check;
 use reasons::Reason;
 use sheet::Which;
@@ -14,6 +15,7 @@ ghost use Prim.Native.Nat.{ℕ, _+_, _-_, _^_, _≤_, _<_, min};
 ghost use lib.ListN.{length};
 ghost use Rattle.reasons.specs.Reasons.{outcomeOf};
 ghost use Rattle.machine.specs.Status.{Good};
+ghost use Rattle.machine.specs.Pins.{pinsIn};
 ghost use Rattle.chip.specs.Lists.{state};
 ghost use Rattle.sheet.specs.Sheet.{sheetOf, wordsOf, wordAt, executionsOf, between, WordReady, Ready};
 ghost use Rattle.run.specs.Run.{Stepped, Went, ended, runOf, runOutcome, inParts};
@@ -26,14 +28,15 @@ pub struct RunAnswer {
     pub machine: Machine,
 }
 
-// What one word of a sheet answers: done, with the number of words run as its place, 1 or 0, or the reason and place of a refusal; Y and its
-// parity as a single word answers them; Q and status.
+// What one word of a sheet answers: done, with the number of words run as its place, 1 or 0, or the reason and place of a refusal; Y, its
+// parity and the pins as a single word answers them; Q and status.
 pub struct StepAnswer {
     pub reason: Reason,
     pub place: usize,
     pub y: u32,
     pub parity: u32,
     pub machine: Machine,
+    pub pins: u32,
 }
 
 // What the chip keeps while words run, and how many have run.
@@ -185,7 +188,7 @@ pub fn run(
 // ---- one word by itself, for a front panel or a debugger
 // It goes through `chip::single_word`, not through `step`: with a second caller the compiler would no longer expand `step` into the loop of a run.
 
-// No word ran: Y and its parity are 0.
+// No word ran: Y and its parity are 0, and the pins show the status.
 fn no_word(reason: Reason, place: usize, machine: Machine) -> StepAnswer
     ensures { λ r. ⌜ r ≡ idle reason place machine ⌝ }
 {
@@ -195,6 +198,7 @@ fn no_word(reason: Reason, place: usize, machine: Machine) -> StepAnswer
         y: 0,
         parity: 0,
         machine,
+        pins: Status::pins_in(machine.status),
     }
 }
 
@@ -236,6 +240,7 @@ fn perform(word: Word, file: &mut [u32], machine: Machine) -> StepAnswer
             q: single.q,
             status: single.status,
         },
+        pins: single.pins,
     };
     if word.write != 0 {
         let to = word.y as usize;
@@ -249,6 +254,7 @@ fn perform(word: Word, file: &mut [u32], machine: Machine) -> StepAnswer
 pub fn one_word(sheet: &[u8], file: &mut [u32], machine: Machine, start: usize) -> StepAnswer
     ensures { λ r. ⌜ halted r (now (file .exit)) ≡ oneWordOf (now (sheet .entry)) (now (file .entry)) machine start ⌝ }
     ensures numbers { λ r. ⌜ outcomeOf (r .reason) (r .place) ≡ runOutcome (now (sheet .entry)) (length (now (file .entry))) start 1 ⌝ }
+    ensures pins { λ r. ⌜ r .pins ≡ pinsIn (r .machine .status) ⌝ }
 {
     let check = sheet::check_start(sheet, file.len(), start);
     if let Check::Bad { reason, place } = check {

@@ -1,4 +1,4 @@
--- Numbers as digits, highest digit first: upper-case hex, and decimal.
+-- Numbers as digits, highest digit first: upper-case hex, decimal, and binary.
 use mathlib.Core.List.{List, [], _∷_}
 use mathlib.Core.Bool.{Bool, true, false}
 use Prim.Native.Nat.{ℕ, zero, suc, _+_, _/_, _%_, _^_}
@@ -12,12 +12,16 @@ either false a b = b
 unfoldable pub digitOf : ℕ → ℕ
 digitOf d = either (ltb d 10) (48 + d) (55 + d)
 
--- k hex digits of x
-abbrev pub hexOf : ℕ → ℕ → List ℕ
-hexOf zero x = []
-hexOf (suc k) x = digitOf (x / 16 ^ k % 16) ∷ hexOf k x
+-- k digits of x to a base
+abbrev pub digitsOf : ℕ → ℕ → ℕ → List ℕ
+digitsOf base zero x = []
+digitsOf base (suc k) x = digitOf (x / base ^ k % base) ∷ digitsOf base k x
 
--- k decimal digits of x
+abbrev pub hexOf : ℕ → ℕ → List ℕ
+hexOf = digitsOf 16
+
 abbrev pub decimalOf : ℕ → ℕ → List ℕ
-decimalOf zero x = []
-decimalOf (suc k) x = digitOf (x / 10 ^ k % 10) ∷ decimalOf k x
+decimalOf = digitsOf 10
+
+abbrev pub binaryOf : ℕ → ℕ → List ℕ
+binaryOf = digitsOf 2

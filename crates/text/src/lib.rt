@@ -2,7 +2,7 @@
 ghost use mathlib.Core.Path.{_≡_};
 ghost use Prim.Native.Nat.{_+_, _≤_, _<_};
 ghost use lib.ListN.{length};
-ghost use Rattle.text.specs.Text.{digitOf, hexOf, decimalOf};
+ghost use Rattle.text.specs.Text.{digitOf, hexOf, decimalOf, binaryOf};
 ghost use Rattle.text.specs.Fill.{Added};
 
 // The byte of one hex digit.
@@ -59,6 +59,19 @@ pub fn decimal2(x: u32) -> [u8; 2]
     ensures { λ r. ⌜ r ≡ decimalOf 2 x ⌝ }
 {
     [digit(x / 10 % 10), digit(x / 1 % 10)]
+}
+
+// The low five binary digits of a number.
+pub fn binary5(x: u32) -> [u8; 5]
+    ensures { λ r. ⌜ r ≡ binaryOf 5 x ⌝ }
+{
+    [
+        digit(x / 16 % 2),
+        digit(x / 8 % 2),
+        digit(x / 4 % 2),
+        digit(x / 2 % 2),
+        digit(x / 1 % 2),
+    ]
 }
 
 // A line into a text at a place; where it ends.

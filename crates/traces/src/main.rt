@@ -3,6 +3,7 @@
 // oracle/traces.sh, the text by the independent program.
 ghost use Prim.Native.Nat.{_+_, _≤_};
 ghost use lib.ListN.{length};
+ghost use Rattle.tracing.specs.Lines.{mostLength};
 
 // The length that stands at a place.
 fn length_at(bundle: &[u8], at: usize) -> usize
@@ -13,7 +14,7 @@ fn length_at(bundle: &[u8], at: usize) -> usize
 
 // The texts of the inputs one after another; an input that is cut short ends it.
 fn all(bundle: &[u8], text: &mut [u8])
-    requires { ⌜ 131048 ≤ length (now text) ⌝ }
+    requires { ⌜ mostLength ≤ length (now text) ⌝ }
 {
     let mut at: usize = 0;
     while at + 4 <= bundle.len() {

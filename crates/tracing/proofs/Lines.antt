@@ -9,13 +9,15 @@ use Rattle.machine.specs.declared.Machine.{Machine}
 use Rattle.machine.specs.Status.{Good}
 use Rattle.machine.specs.declared.Core.{Core}
 use Rattle.machine.specs.Core.{freshOf, taken, shownStatus}
+use Rattle.machine.specs.Pins.{pinsOf, pinsIn}
 use Rattle.machine.proofs.Handed.{taken-good}
+use Rattle.machine.proofs.Pins.{pins-read}
 use Rattle.reasons.specs.declared.Reason.{Reason}
 use Rattle.reasons.specs.declared.Reason.the-variants.{Done}
 use Rattle.reasons.specs.declared.Check.{Check}
 use Rattle.reasons.specs.declared.Check.the-variants.{Good as Passed, Bad}
 use Rattle.reasons.specs.Reasons.{numberOf}
-use Rattle.text.specs.Text.{hexOf, decimalOf}
+use Rattle.text.specs.Text.{hexOf, decimalOf, binaryOf}
 use Rattle.text.specs.Fill.{Put, Written}
 use Rattle.text.proofs.Fill.{put-on, put-as, written-on, written-alone, written-as}
 use Rattle.chip.specs.declared.Word.{Word}
@@ -42,15 +44,20 @@ pub last-is : (n p : List ℕ) (reason : Reason) (k place : ℕ) → k ≡ numbe
 unfolding lastOf
 last-is n p reason k place e f g = rw (f, g, e) refl
 
-pub line-is : (i y q s : List ℕ) (index : ℕ) (x : Shown) (status : ℕ) → status ≡ shownStatus x → i ≡ hexOf 4 index → y ≡ hexOf 8 (x .y) → q ≡ hexOf 8 (x .core .q)
-    → s ≡ hexOf 8 status
+pub line-is : (i y q s p : List ℕ) (index : ℕ) (x : Shown) (status pins : ℕ) → status ≡ shownStatus x → pins ≡ pinsOf (x .core .status) → i ≡ hexOf 4 index → y ≡ hexOf 8 (x .y)
+    → q ≡ hexOf 8 (x .core .q) → s ≡ hexOf 8 status → p ≡ binaryOf 5 pins
     → getD i 0 0 ∷ getD i 1 0 ∷ getD i 2 0 ∷ getD i 3 0 ∷ 32
     ∷ getD y 0 0 ∷ getD y 1 0 ∷ getD y 2 0 ∷ getD y 3 0 ∷ getD y 4 0 ∷ getD y 5 0 ∷ getD y 6 0 ∷ getD y 7 0 ∷ 32
     ∷ getD q 0 0 ∷ getD q 1 0 ∷ getD q 2 0 ∷ getD q 3 0 ∷ getD q 4 0 ∷ getD q 5 0 ∷ getD q 6 0 ∷ getD q 7 0 ∷ 32
-    ∷ getD s 0 0 ∷ getD s 1 0 ∷ getD s 2 0 ∷ getD s 3 0 ∷ getD s 4 0 ∷ getD s 5 0 ∷ getD s 6 0 ∷ getD s 7 0 ∷ 10 ∷ []
+    ∷ getD s 0 0 ∷ getD s 1 0 ∷ getD s 2 0 ∷ getD s 3 0 ∷ getD s 4 0 ∷ getD s 5 0 ∷ getD s 6 0 ∷ getD s 7 0 ∷ 32
+    ∷ getD p 0 0 ∷ getD p 1 0 ∷ getD p 2 0 ∷ getD p 3 0 ∷ getD p 4 0 ∷ 10 ∷ []
     ≡ lineOf index x
 unfolding lineOf
-line-is i y q s index x status e e₁ e₂ e₃ e₄ = rw (e₁, e₂, e₃, e₄, e) refl
+line-is i y q s p index x status pins e f e₁ e₂ e₃ e₄ e₅ = rw (e₁, e₂, e₃, e₄, e₅, e, f) refl
+
+-- the digits of its pins are those of five bits of the status that stands on it
+pub line-pins : (x : Shown) → Good (x .core .status) → binaryOf 5 (pinsOf (x .core .status)) ≡ binaryOf 5 (pinsIn (shownStatus x))
+line-pins x g = ap (binaryOf 5) (pins-read (x .borrow) (x .core .status) g)
 
 pub line-length : (index : ℕ) (x : Shown) → length (lineOf index x) ≡ lineLength
 unfolding lineOf

@@ -15,16 +15,16 @@ ghost use Rattle.text.specs.Text.{hexOf};
 ghost use Rattle.sheet.specs.Sheet.{wordsOf, declaredOf, wordAt, inputOf, Ready};
 ghost use Rattle.tracing.specs.Input.{sizeOf, registerAt, registersFrom};
 ghost use Rattle.text.specs.Fill.{Added, Written};
-ghost use Rattle.tracing.specs.Lines.{lineOf, lastOf, textOf};
+ghost use Rattle.tracing.specs.Lines.{lineOf, lineLength, lastOf, lastLength, mostLength, textOf};
 ghost use Rattle.tracing.specs.Fill.{Traced, Filled};
 
 // The bytes of an execution's line, and of the last line.
-const LINE: usize = 32;
+const LINE: usize = 38;
 
 const LAST: usize = 8;
 
 // The bytes of the longest text: 4,095 lines, and the last one.
-pub const MOST: usize = 131048;
+pub const MOST: usize = 4095 * LINE + LAST;
 
 // ---- text
 
@@ -35,7 +35,7 @@ fn four(n: usize) -> [u8; 4]
     text::hex4((n % 65536) as u32)
 }
 
-// The line of an execution: index, Y, Q, status.
+// The line of an execution: index, Y, Q, status, pins.
 fn line(index: usize, shown: Shown) -> [u8; LINE]
     requires { ⌜ Good (shown .core .status) ⌝ }
     ensures { λ r. ⌜ r ≡ lineOf index shown ⌝ }
@@ -44,6 +44,9 @@ fn line(index: usize, shown: Shown) -> [u8; LINE]
     let y = text::hex8(shown.y);
     let q = text::hex8(shown.core.q);
     let s = text::hex8(shown.status());
+    let core = shown.core;
+    let status = core.status;
+    let p = text::binary5(status.pins());
     [
         i[0],
         i[1],
@@ -76,6 +79,12 @@ fn line(index: usize, shown: Shown) -> [u8; LINE]
         s[5],
         s[6],
         s[7],
+        b' ',
+        p[0],
+        p[1],
+        p[2],
+        p[3],
+        p[4],
         b'\n',
     ]
 }
@@ -123,7 +132,7 @@ fn load(input: &[u8], at: usize, file: &mut [u32])
 
 // The last line into a text at a place; where the text ends.
 fn put_last(text: &mut [u8], at: usize, reason: Reason, place: usize) -> usize
-    requires { ⌜ at + 8 ≤ length (now text) ⌝ }
+    requires { ⌜ at + lastLength ≤ length (now text) ⌝ }
     ensures { λ r. ⌜ Added (lastOf reason place) at (now (text .entry)) r (now (text .exit)) ⌝ }
 {
     let line = last_line(reason, place);
@@ -133,7 +142,7 @@ fn put_last(text: &mut [u8], at: usize, reason: Reason, place: usize) -> usize
 // Execution `index` of a sheet, run, and its line in its place. The sheet was checked once: this checks nothing again.
 fn trace_word(sheet: &[u8], index: usize, file: &mut [u32], core: Core, text: &mut [u8]) -> Core
     requires { ⌜ Ready (now sheet) (length (now file)) × (index < wordsOf (now sheet)) × Good (core .status) ⌝ }
-    requires { ⌜ 32 * index + 32 ≤ length (now text) ⌝ }
+    requires { ⌜ lineLength * index + lineLength ≤ length (now text) ⌝ }
     ensures { λ r. ⌜ Traced (wordAt (now (sheet .entry)) index) index (state (now (file .entry)) core) (now (text .entry)) (state (now (file .exit)) r) (now (text .exit)) ⌝ }
 {
     let shown = run::step_at(sheet, sheet, Which::Main, index, file, core);
@@ -145,7 +154,7 @@ fn trace_word(sheet: &[u8], index: usize, file: &mut [u32], core: Core, text: &m
 
 // The lines of a sheet's executions, from the first to the last on a fresh machine, at the start of a text; how many bytes they take.
 fn fill(sheet: &[u8], file: &mut [u32], text: &mut [u8]) -> usize
-    requires { ⌜ Ready (now sheet) (length (now file)) × (32 * wordsOf (now sheet) ≤ length (now text)) ⌝ }
+    requires { ⌜ Ready (now sheet) (length (now file)) × (lineLength * wordsOf (now sheet) ≤ length (now text)) ⌝ }
     ensures { λ r. ⌜ Filled (now (sheet .entry)) (now (file .entry)) (now (text .entry)) r (now (text .exit)) ⌝ }
 {
     let n = sheet::executions(sheet);
@@ -160,7 +169,7 @@ fn fill(sheet: &[u8], file: &mut [u32], text: &mut [u8]) -> usize
 
 // The text of an input that was checked, on a file that has room for its registers.
 fn trace_run(input: &[u8], file: &mut [u32], text: &mut [u8]) -> usize
-    requires { ⌜ (inputOf (now input) ≡ Check.Good) × (length (now file) ≡ declaredOf (now input)) × (131048 ≤ length (now text)) ⌝ }
+    requires { ⌜ (inputOf (now input) ≡ Check.Good) × (length (now file) ≡ declaredOf (now input)) × (mostLength ≤ length (now text)) ⌝ }
     ensures { λ r. ⌜ Written (textOf (now (input .entry))) (now (text .entry)) r (now (text .exit)) ⌝ }
 {
     load(input, sheet_size(input), file);
@@ -171,7 +180,7 @@ fn trace_run(input: &[u8], file: &mut [u32], text: &mut [u8]) -> usize
 // The trace of an input: all of its text at the start of a lent buffer, which has room for the longest; how many bytes it has. Bytes past them
 // stay.
 pub fn trace(input: &[u8], text: &mut [u8]) -> usize
-    requires { ⌜ 131048 ≤ length (now text) ⌝ }
+    requires { ⌜ mostLength ≤ length (now text) ⌝ }
     ensures { λ r. ⌜ Written (textOf (now (input .entry))) (now (text .entry)) r (now (text .exit)) ⌝ }
 {
     let check = sheet::check_input(input);
@@ -185,7 +194,7 @@ pub fn trace(input: &[u8], text: &mut [u8]) -> usize
 
 // That text, written to standard output.
 pub fn write(input: &[u8], text: &mut [u8])
-    requires { ⌜ 131048 ≤ length (now text) ⌝ }
+    requires { ⌜ mostLength ≤ length (now text) ⌝ }
 {
     let n = trace(input, text);
     io::write_all(1, &text[..n]);

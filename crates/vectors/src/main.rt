@@ -8,7 +8,7 @@ ghost use mathlib.Core.Path.{_≡_};
 ghost use lib.ListN.{length};
 
 fn case(line: &[u8]) -> SingleWord
-    requires { ⌜ length (now line) ≡ 93 ⌝ }
+    requires { ⌜ length (now line) ≡ 96 ⌝ }
 {
     SingleWord {
         opcode: number_at(line, 0, 2),
@@ -28,7 +28,7 @@ fn case(line: &[u8]) -> SingleWord
 
 // Whether an answer is the one that the line has.
 fn same(line: &[u8], answer: SingleAnswer) -> bool
-    requires { ⌜ length (now line) ≡ 93 ⌝ }
+    requires { ⌜ length (now line) ≡ 96 ⌝ }
 {
     let reason = answer.reason;
     if reasons::number(reason) != number_at(line, 60, 2) {
@@ -46,11 +46,14 @@ fn same(line: &[u8], answer: SingleAnswer) -> bool
     if answer.q != number_at(line, 75, 8) {
         return false;
     }
-    answer.status == number_at(line, 84, 8)
+    if answer.status != number_at(line, 84, 8) {
+        return false;
+    }
+    answer.pins == number_at(line, 93, 2)
 }
 
 fn right(line: &[u8]) -> bool
-    requires { ⌜ length (now line) ≡ 93 ⌝ }
+    requires { ⌜ length (now line) ≡ 96 ⌝ }
 {
     same(line, chip::single_word(case(line)))
 }
@@ -61,7 +64,7 @@ fn all() -> Tally {
         missed: 0,
         first: 0,
     };
-    let mut line = [0u8; 93];
+    let mut line = [0u8; 96];
     while tally.cases < lines::MOST {
         if !lines::read(&mut line) {
             return tally;

@@ -23,6 +23,7 @@ mod library {
         pub parity: u32,
         pub q: u32,
         pub status: u32,
+        pub pins: u32,
     }
 
     #[repr(C)]
@@ -51,6 +52,7 @@ mod library {
         pub y: u32,
         pub parity: u32,
         pub machine: Machine,
+        pub pins: u32,
     }
 
     #[repr(C)]
@@ -119,7 +121,7 @@ mod library {
 }
 
 /// The version of the header that this wrapper was written for: major, minor, patch.
-pub const VERSION: (u32, u32, u32) = (2, 0, 0);
+pub const VERSION: (u32, u32, u32) = (3, 0, 0);
 
 /// Bytes of buffers that always suffice: for a sheet, and for its listing.
 pub const SHEET_MOST: usize = 24_574;
@@ -176,12 +178,14 @@ pub struct Inputs {
     pub status: u32,
 }
 
-/// What a single word gives. The parity has a bit for each byte of Y, the highest byte's in bit 3.
+/// What a single word gives. The parity has a bit for each byte of Y, the highest byte's in bit 3;
+/// the pins C, Z, N, V and L are bits 4 to 0.
 #[derive(Clone, Copy, Debug, PartialEq, Eq)]
 pub struct Answer {
     pub y: u32,
     pub parity: u32,
     pub machine: Machine,
+    pub pins: u32,
 }
 
 /// What the header of a sheet says.
@@ -192,11 +196,12 @@ pub struct Heading {
     pub registers: u32,
 }
 
-/// What one word of a sheet shows, with the parity as in `Answer`.
+/// What one word of a sheet shows, with parity and pins as in `Answer`.
 #[derive(Clone, Copy, Debug, PartialEq, Eq)]
 pub struct Shown {
     pub y: u32,
     pub parity: u32,
+    pub pins: u32,
 }
 
 /// Why a call is refused. `Unknown` keeps the number of a reason that this wrapper does not know,
@@ -313,6 +318,13 @@ impl Machine {
         // SAFETY: nothing is handed in.
         unsafe { library::am29332_fresh() }
     }
+
+    /// The pins that show this status: what is seen after a run, and where no word ran or it was
+    /// refused. The pins of an answer are always these of its machine.
+    pub fn pins(self) -> u32 {
+        let bit = |place: u32| self.status >> place & 1;
+        bit(16) << 4 | bit(19) << 3 | bit(17) << 2 | bit(18) << 1 | bit(20)
+    }
 }
 
 impl Inputs {
@@ -329,6 +341,7 @@ impl Inputs {
             y: answer.y,
             parity: answer.parity,
             machine,
+            pins: answer.pins,
         })
     }
 }
@@ -448,6 +461,7 @@ pub fn step(
     let shown = Shown {
         y: stepped.y,
         parity: stepped.parity,
+        pins: stepped.pins,
     };
     done(stepped.outcome, 0).map(|words| (words > 0).then_some(shown))
 }

@@ -6,7 +6,7 @@ mod am29332;
 
 use am29332::{
     check_handler, check_sheet, interrupted_run, library_version, list_sheet, read_header,
-    read_listing, run, step, Inputs, Machine, Refusal, Word, LISTING_MOST, SHEET_MOST,
+    read_listing, run, step, Inputs, Machine, Refusal, Shown, Word, LISTING_MOST, SHEET_MOST,
 };
 use std::process::exit;
 
@@ -15,7 +15,7 @@ const WORD_BYTES: usize = 6;
 const MOST_REGISTERS: usize = 64;
 const MOST_ENTRIES: usize = 1024;
 const HANDLER_REGISTERS: usize = 4;
-const PANEL_WORDS: usize = 4;
+const PANEL_WORDS: usize = 8;
 const LISTING_LINES: usize = 8;
 
 // Opcodes that the handler uses.
@@ -52,6 +52,12 @@ fn print_outcome(what: &str, outcome: Result<u64, Refusal>) {
 /// An outcome without words run: its place is 0.
 fn print_check(what: &str, outcome: Result<(), Refusal>) {
     print_outcome(what, outcome.map(|()| 0));
+}
+
+/// Five lamps, lit or dark: the pins C, Z, N, V and L.
+fn lamps(pins: u32) -> String {
+    let lamp = |bit| if pins >> bit & 1 == 1 { " *" } else { " ." };
+    (0..5).rev().map(lamp).collect()
 }
 
 fn yes(answer: bool) -> &'static str {
@@ -163,19 +169,34 @@ fn read_fault() {
 
 // ---- runs
 
-/// A front panel: the first words one by one, with what each shows; then what is said at the
-/// sheet's end and past it.
+/// A line of the front panel: what stands on it after a step, or where none ran.
+fn print_panel(word: &str, shown: Option<Shown>, machine: Machine) {
+    let shown = shown.unwrap_or(Shown {
+        y: 0,
+        parity: 0,
+        pins: machine.pins(),
+    });
+    println!(
+        "  {word:>4}  {:08X}  {:X}       {:08X}  {:08X} {}",
+        shown.y,
+        shown.parity,
+        machine.q,
+        machine.status,
+        lamps(shown.pins)
+    );
+}
+
+/// A small front panel: the first words one by one, with what each shows; then what is said and
+/// shown at the sheet's end and past it.
 fn step_by_step(job: &Job) -> Result<(), Refusal> {
     let mut file = job.file;
     let file = &mut file[..job.registers];
     let mut machine = Machine::fresh();
+    println!("front panel");
+    println!("  word  Y         parity  Q         status    C Z N V L");
     for at in 0..job.words.min(PANEL_WORDS) {
-        if let Some(shown) = step(&job.sheet, file, &mut machine, at as u64)? {
-            println!(
-                "word {at}: Y {:08X}, parity {:X}, Q {:08X}, status {:08X}",
-                shown.y, shown.parity, machine.q, machine.status
-            );
-        }
+        let shown = step(&job.sheet, file, &mut machine, at as u64)?;
+        print_panel(&at.to_string(), shown, machine);
     }
     for (what, at) in [
         ("step at the end", job.words),
@@ -183,6 +204,7 @@ fn step_by_step(job: &Job) -> Result<(), Refusal> {
     ] {
         let shown = step(&job.sheet, file, &mut machine, at as u64);
         print_outcome(what, shown.map(|shown| u64::from(shown.is_some())));
+        print_panel("none", shown.unwrap_or(None), machine);
     }
     Ok(())
 }
@@ -263,6 +285,11 @@ fn library() {
     }
 }
 
+/// What a single word leaves on Y and on the lamps.
+fn print_answer(y: u32, parity: u32, pins: u32) {
+    println!("  Y {y:08X}, parity {parity:X}, C Z N V L{}", lamps(pins));
+}
+
 /// A single word: example d of document 01, NOT-A on two bytes.
 fn single_word() {
     let inputs = Inputs {
@@ -277,15 +304,26 @@ fn single_word() {
         answer.map(|_| ()),
     );
     if let Ok(a) = answer {
-        let status = a.machine.status;
-        println!(
-            "  Y {:08X}, parity {:X}, N {}, Z {}",
-            a.y,
-            a.parity,
-            status >> 17 & 1,
-            status >> 19 & 1
-        );
+        print_answer(a.y, a.parity, a.pins);
     }
+}
+
+/// One that is refused: the lamps show the status that was handed in.
+fn refused_word() {
+    let machine = Machine {
+        q: 0,
+        status: 1 << 16 | 1 << 17 | 1 << 20,
+    };
+    let inputs = Inputs {
+        opcode: 0x1E,
+        status: machine.status,
+        ..Inputs::default()
+    };
+    print_check(
+        "single word 1E, which has no page",
+        inputs.perform().map(|_| ()),
+    );
+    print_answer(0, 0, machine.pins());
 }
 
 /// Two numbers compared on one byte, as a branch is picked: SUB, and what its answer says. Bit 13 is right in
@@ -335,6 +373,7 @@ fn main() {
     };
     library();
     single_word();
+    refused_word();
     compare(0);
     compare(1);
     print_check("check of no bytes", check_sheet(&[]));

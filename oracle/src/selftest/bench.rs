@@ -4,11 +4,13 @@ use crate::faults::Faults;
 use crate::pages::number_of;
 use crate::word::{single, Inputs};
 
-/// Q, status and the inputs that stay the same from word to word.
+/// Q, status, pins and the inputs that stay the same from word to word.
 #[derive(Clone, Copy, Default)]
 pub struct Bench {
     pub q: u32,
     pub status: u32,
+    /// After the last word.
+    pub pins: u8,
     pub byte_code: u8,
     pub position: u8,
     pub width: u8,
@@ -63,6 +65,7 @@ impl Bench {
         assert_eq!(answer.reason, 0);
         self.q = answer.q;
         self.status = answer.status;
+        self.pins = answer.pins;
         answer.y
     }
 

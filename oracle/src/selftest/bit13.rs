@@ -2,6 +2,7 @@
 //! borrow switch, runs hand it back in carry mode, and nobody takes it in.
 
 use super::bench::{Bench, WIDTHS};
+use super::pins::pins_of;
 use super::Group;
 use crate::cases::*;
 use crate::faults::Faults;
@@ -274,7 +275,8 @@ fn trace_by_hand(group: &mut Group) {
             borrow,
             ..Word::default()
         });
-        want += &format!("{i:04X} {y:08X} 00000000 {status:08X}\n");
+        let pins = pins_of(status);
+        want += &format!("{i:04X} {y:08X} 00000000 {status:08X} {pins:05b}\n");
     }
     let mut input = build(&words, 2);
     input.extend([0, 0, 0, 5, 0, 0, 0, 3]);
@@ -389,7 +391,7 @@ pub fn traces(group: &mut Group) {
         let text = trace(&input);
         let lines: Vec<&str> = text.lines().collect();
         for (i, line) in lines[..lines.len() - 1].iter().enumerate() {
-            let status = line.rsplit(' ').next().unwrap_or("");
+            let status = line.split(' ').nth(3).unwrap_or("");
             let status = u32::from_str_radix(status, 16).unwrap_or(0);
             let borrow = word_at(&input, i).borrow;
             let good = in_mode(status, borrow);

@@ -75,8 +75,8 @@ const TRACE_INPUT: [u8; 26] = [
     0x12, 0x34, 0x56, 0x3C, 0x00, 0x00, 0x00, 0x00,
 ];
 
-/// The status is document 02's, by its third request.
+/// The status and the pins are document 02's, by its third and fourth requests.
 pub fn trace_example(group: &mut Group) {
-    let want = "0000 12345630 00000000 00002000\n00 0001\n";
+    let want = "0000 12345630 00000000 00002000 00000\n00 0001\n";
     group.same("trace", trace(&TRACE_INPUT), want.to_string());
 }

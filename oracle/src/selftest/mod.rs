@@ -8,6 +8,7 @@ mod draws;
 mod examples;
 mod listing;
 mod manual;
+mod pins;
 mod runs;
 mod sequences;
 mod sheets;
@@ -42,7 +43,7 @@ impl Group {
 type Test = (&'static str, fn(&mut Group));
 
 /// Every group, in order.
-const GROUPS: [Test; 46] = [
+const GROUPS: [Test; 55] = [
     ("document 01, examples a to m", examples::lettered),
     ("document 01, the trace example", examples::trace_example),
     ("manual, field pages", manual::field_pages),
@@ -109,6 +110,15 @@ const GROUPS: [Test; 46] = [
     ("bit 13 after interrupted runs", bit13::interrupted),
     ("bit 13 in the lines of traces", bit13::traces),
     ("bit 13 taken in changes nothing", bit13::loaded),
+    ("pins by hand, each alone", pins::by_hand),
+    ("pins of document 01's examples", pins::examples),
+    ("pins of every opcode number", pins::every_opcode),
+    ("pins that a page's word changes", pins::by_the_pages),
+    ("pins of flags left alone", pins::left_alone),
+    ("pins of an extracted status bit", pins::extracted),
+    ("pins of refused words", pins::refused),
+    ("pins in the lines of traces", pins::traces),
+    ("pins are not in runs", pins::not_in_runs),
     ("the draw's boundary patterns", draws::patterns),
     ("the draw's runs end in every way", draws::reasons),
     ("listings by hand", listing::by_hand),

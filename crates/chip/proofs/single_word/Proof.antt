@@ -1,6 +1,7 @@
 -- What the opcode decodes to is the table's first row.
 use mathlib.Core.Path.{sym, _∙_}
-use Rattle.chip.proofs.Single.{refused-opcode, in-numbers}
+use native.Mathlib.Omega.{arith}
+use Rattle.chip.proofs.Single.{refused-opcode, promised}
 use borrow.Author.Needs.{needs}
 use Rattle.chip.proofs.single_word.Statement.{statement}
 use Rattle.chip.proofs.single_word.Tie as tie
@@ -10,11 +11,17 @@ admit-requires c κs = sym (c .before .before .before .decode .ensures) ∙ c .b
 
 returns : tie.Need-returns
 returns c =
-    let s = c .before .before .before .before .args .s in
-    in-numbers s _ (c .refuse .ensures ∙ refused-opcode s (sym (c .before .before .before .decode .ensures) ∙ c .before .enum-told .given .1))
+    let z = c .before .before .before .before in
+    -- past the word's own fields: A, B and Q
+    let rest = z .good .0 .1 .1 .1 .1 .1 .1 .1 .1 in
+    promised (z .args .s) (omega (arith, rest .0)) (omega (arith, rest .1 .0)) (omega (arith, rest .1 .1 .0)) _
+    (c .refuse .ensures ∙ refused-opcode (z .args .s) (sym (c .before .before .before .decode .ensures) ∙ c .before .enum-told .given .1))
 
 returns-2 : tie.Need-returns-2
-returns-2 c = in-numbers (c .before .before .before .before .before .args .s) _ (c .admit .ensures)
+returns-2 c =
+    let z = c .before .before .before .before .before in
+    let rest = z .good .0 .1 .1 .1 .1 .1 .1 .1 .1 in
+    promised (z .args .s) (omega (arith, rest .0)) (omega (arith, rest .1 .0)) (omega (arith, rest .1 .1 .0)) _ (c .admit .ensures)
 
 pub single-word-spec : {M : Type 1} → statement M
 single-word-spec =

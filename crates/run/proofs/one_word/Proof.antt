@@ -10,6 +10,7 @@ use Rattle.machine.specs.Core.{handedBack}
 use Rattle.machine.proofs.Handed.{taken-good}
 use Rattle.reasons.specs.declared.Reason.the-variants.{Done}
 use Rattle.chip.specs.declared.Word.{Word}
+use Rattle.chip.proofs.Files.{read-small}
 use Rattle.sheet.specs.declared.Given.the-variants.{Number}
 use Rattle.sheet.specs.Sheet.{wordAt, executionsOf, WordReady}
 use Rattle.sheet.proofs.Positions.{executions-length, executions-next}
@@ -17,7 +18,7 @@ use Rattle.sheet.proofs.Table.{ready}
 use Rattle.run.specs.declared.StepAnswer.{StepAnswer}
 use Rattle.run.specs.Step.{halted, idle, performedOn}
 use Rattle.run.proofs.Laws.{word-ready}
-use Rattle.run.proofs.Stepping.{step-refused, step-is, step-numbers}
+use Rattle.run.proofs.Stepping.{step-refused, step-is, promised}
 use borrow.Author.Needs.{needs}
 use Rattle.run.proofs.one_word.Statement.{statement}
 use Rattle.run.proofs.one_word.Tie as tie
@@ -25,8 +26,9 @@ use Rattle.run.proofs.one_word.Tie as tie
 returns : tie.Need-returns
 returns c =
     let k = c .before .before .before .before in
-    let a = k .before .before .before .args in
-    step-numbers (now (a .sheet)) (now (a .file)) (a .machine) (a .start) _
+    let z = k .before .before .before in
+    let a = z .args in
+    promised (now (a .sheet)) (now (a .file)) (a .machine) (a .start) (read-small (now (a .file)) (λ r. k .before .slice-known .given r .fits)) (omega (arith, z .good .1 .1 .0)) _
     (ap (λ (x : StepAnswer). halted x (now (a .file))) (c .no-word .ensures)
     ∙ step-refused (now (a .sheet)) (now (a .file)) (a .machine) (a .start) _ _ (sym (k .check-start .ensures .0) ∙ c .before .before .check .given .1))
 
@@ -45,10 +47,11 @@ returns-2 : tie.Need-returns-2
 returns-2 c =
     let x = c .before .before .before .before in
     let k = x .before .before .before in
-    let a = k .before .before .before .args in
+    let z = k .before .before .before in
+    let a = z .args in
     let s = now (a .sheet) in
     let past : length (executionsOf s) ≤ a .start = omega (arith, x .executions .ensures, c .before .before .before .if1 .taken) in
-    step-numbers s (now (a .file)) (a .machine) (a .start) _
+    promised s (now (a .file)) (a .machine) (a .start) (read-small (now (a .file)) (λ r. k .before .slice-known .given r .fits)) (omega (arith, z .good .1 .1 .0)) _
     (ap (λ (y : StepAnswer). halted y (now (a .file)))
     (c .no-word2 .ensures ∙ ap (idle Done 0) (c .before .leave .ensures ∙ ap handedBack (c .before .before .enter .ensures)))
     ∙ step-is s (now (a .file)) (a .machine) (a .start) _ (sym (k .check-start .ensures .0) ∙ x .before .enum-told .given .1)
@@ -79,9 +82,10 @@ returns-3 c =
     let p = c .before .before in
     let x = p .before .before .before .before in
     let k = x .before .before .before in
-    let a = k .before .before .before .args in
+    let z = k .before .before .before in
+    let a = z .args in
     let s = now (a .sheet) in
-    step-numbers s (now (a .file)) (a .machine) (a .start) _
+    promised s (now (a .file)) (a .machine) (a .start) (read-small (now (a .file)) (λ r. k .before .slice-known .given r .fits)) (omega (arith, z .good .1 .1 .0)) _
     (p .perform .ensures
     ∙ ap (λ (w : Word). performedOn w (now (a .file)) (a .machine)) (p .before .before .word-at .ensures .0)
     ∙ step-is s (now (a .file)) (a .machine) (a .start) _ (sym (k .check-start .ensures .0) ∙ x .before .enum-told .given .1)
