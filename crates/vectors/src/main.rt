@@ -26,6 +26,19 @@ fn case(line: &[u8]) -> SingleWord
     }
 }
 
+// Whether an answer leaves the chip as the line has it: Q, status and pins.
+fn same_after(line: &[u8], answer: SingleAnswer) -> bool
+    requires { ⌜ length (now line) ≡ 96 ⌝ }
+{
+    if answer.q != number_at(line, 75, 8) {
+        return false;
+    }
+    if answer.status != number_at(line, 84, 8) {
+        return false;
+    }
+    answer.pins == number_at(line, 93, 2)
+}
+
 // Whether an answer is the one that the line has.
 fn same(line: &[u8], answer: SingleAnswer) -> bool
     requires { ⌜ length (now line) ≡ 96 ⌝ }
@@ -43,13 +56,7 @@ fn same(line: &[u8], answer: SingleAnswer) -> bool
     if answer.y != number_at(line, 66, 8) {
         return false;
     }
-    if answer.q != number_at(line, 75, 8) {
-        return false;
-    }
-    if answer.status != number_at(line, 84, 8) {
-        return false;
-    }
-    answer.pins == number_at(line, 93, 2)
+    same_after(line, answer)
 }
 
 fn right(line: &[u8]) -> bool

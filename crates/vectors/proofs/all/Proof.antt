@@ -7,7 +7,7 @@ use Rattle.vectors.proofs.all.Statement.{statement}
 use Rattle.vectors.proofs.all.Tie as tie
 
 abbrev Inv-loop : tie.InvT-loop
-Inv-loop tally₀ line₀ tally line = (length line ≡ 93) × (tally .missed ≤ tally .cases)
+Inv-loop tally₀ line₀ tally line = (length line ≡ 96) × (tally .missed ≤ tally .cases)
 
 abbrev μ-loop : tie.MeasureT-loop
 μ-loop tally₀ line₀ tally line = 1000000 - tally .cases
