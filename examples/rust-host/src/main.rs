@@ -56,7 +56,7 @@ fn print_check(what: &str, outcome: Result<(), Refusal>) {
 
 /// Five lamps, lit or dark: the pins C, Z, N, V and L.
 fn lamps(pins: u32) -> String {
-    let lamp = |bit| if pins >> bit & 1 == 1 { " *" } else { " ." };
+    let lamp = |bit: u32| if pins >> bit & 1 == 1 { " *" } else { " ." };
     (0..5).rev().map(lamp).collect()
 }
 
