@@ -3,7 +3,7 @@ use mathlib.Core.Path.{_≡_, refl, ap, sym, subst, _∙_}
 use mathlib.Core.List.{List, [], _∷_, _++_, append-assoc, append-nil}
 use Prim.Native.Nat.{ℕ, _+_, _*_, _/_, _%_, _≤_, _<_}
 use native.Mathlib.Omega.{arith}
-use lib.ListN.{length, getD, drop, length-append, drop-of-length-le}
+use lib.ListN.{length, getD, take, drop, length-append, drop-of-length-le}
 use Rattle.machine.specs.declared.Shown.{Shown}
 use Rattle.machine.specs.declared.Machine.{Machine}
 use Rattle.machine.specs.Status.{Good}
@@ -18,6 +18,7 @@ use Rattle.reasons.specs.declared.Check.{Check}
 use Rattle.reasons.specs.declared.Check.the-variants.{Good as Passed, Bad}
 use Rattle.reasons.specs.Reasons.{numberOf}
 use Rattle.text.specs.Text.{hexOf, decimalOf, binaryOf}
+use Rattle.text.specs.Ascii.{ascii}
 use Rattle.text.specs.Fill.{Put, Written}
 use Rattle.text.proofs.Fill.{put-on, put-as, written-on, written-alone, written-as}
 use Rattle.chip.specs.declared.Word.{Word}
@@ -44,16 +45,23 @@ pub last-is : (n p : List ℕ) (reason : Reason) (k place : ℕ) → k ≡ numbe
 unfolding lastOf
 last-is n p reason k place e f g = rw (f, g, e) refl
 
-pub line-is : (i y q s p : List ℕ) (index : ℕ) (x : Shown) (status pins : ℕ) → status ≡ shownStatus x → pins ≡ pinsOf (x .core .status) → i ≡ hexOf 4 index → y ≡ hexOf 8 (x .y)
-    → q ≡ hexOf 8 (x .core .q) → s ≡ hexOf 8 status → p ≡ binaryOf 5 pins
-    → getD i 0 0 ∷ getD i 1 0 ∷ getD i 2 0 ∷ getD i 3 0 ∷ 32
-    ∷ getD y 0 0 ∷ getD y 1 0 ∷ getD y 2 0 ∷ getD y 3 0 ∷ getD y 4 0 ∷ getD y 5 0 ∷ getD y 6 0 ∷ getD y 7 0 ∷ 32
-    ∷ getD q 0 0 ∷ getD q 1 0 ∷ getD q 2 0 ∷ getD q 3 0 ∷ getD q 4 0 ∷ getD q 5 0 ∷ getD q 6 0 ∷ getD q 7 0 ∷ 32
-    ∷ getD s 0 0 ∷ getD s 1 0 ∷ getD s 2 0 ∷ getD s 3 0 ∷ getD s 4 0 ∷ getD s 5 0 ∷ getD s 6 0 ∷ getD s 7 0 ∷ 32
-    ∷ getD p 0 0 ∷ getD p 1 0 ∷ getD p 2 0 ∷ getD p 3 0 ∷ getD p 4 0 ∷ 10 ∷ []
-    ≡ lineOf index x
+-- a line put over a text at a place
+abbrev over : ℕ → List ℕ → List ℕ → List ℕ
+over at line l = take at l ++ line ++ drop (at + length line) l
+
+-- what a line starts from
+abbrev zeros : List ℕ
+zeros = ascii "0000 00000000 00000000 00000000 00000\n"
+
+-- and five numbers put over that
+pub line-is : {i y q s p a b c d e : List ℕ} (index : ℕ) (x : Shown) {status pins : ℕ} → status ≡ shownStatus x → pins ≡ pinsOf (x .core .status)
+    → i ≡ hexOf 4 index → y ≡ hexOf 8 (x .y) → q ≡ hexOf 8 (x .core .q) → s ≡ hexOf 8 status → p ≡ binaryOf 5 pins
+    → Put i 0 zeros a → Put y 5 a b → Put q 14 b c → Put s 23 c d → Put p 32 d e → e ≡ lineOf index x
 unfolding lineOf
-line-is i y q s p index x status pins e f e₁ e₂ e₃ e₄ e₅ = rw (e₁, e₂, e₃, e₄, e₅, e, f) refl
+line-is {i} {y} {q} {s} {p} index x f g e₁ e₂ e₃ e₄ e₅ p₁ p₂ p₃ p₄ p₅ =
+    p₅ .bytes
+    ∙ ap (over 32 p) (p₄ .bytes ∙ ap (over 23 s) (p₃ .bytes ∙ ap (over 14 q) (p₂ .bytes ∙ ap (over 5 y) (p₁ .bytes))))
+    ∙ rw (e₁, e₂, e₃, e₄, e₅, f, g) refl
 
 -- the digits of its pins are those of five bits of the status that stands on it
 pub line-pins : (x : Shown) → Good (x .core .status) → binaryOf 5 (pinsOf (x .core .status)) ≡ binaryOf 5 (pinsIn (shownStatus x))

@@ -47,46 +47,13 @@ fn line(index: usize, shown: Shown) -> [u8; LINE]
     let core = shown.core;
     let status = core.status;
     let p = text::binary5(status.pins());
-    [
-        i[0],
-        i[1],
-        i[2],
-        i[3],
-        b' ',
-        y[0],
-        y[1],
-        y[2],
-        y[3],
-        y[4],
-        y[5],
-        y[6],
-        y[7],
-        b' ',
-        q[0],
-        q[1],
-        q[2],
-        q[3],
-        q[4],
-        q[5],
-        q[6],
-        q[7],
-        b' ',
-        s[0],
-        s[1],
-        s[2],
-        s[3],
-        s[4],
-        s[5],
-        s[6],
-        s[7],
-        b' ',
-        p[0],
-        p[1],
-        p[2],
-        p[3],
-        p[4],
-        b'\n',
-    ]
+    let mut line = *b"0000 00000000 00000000 00000000 00000\n";
+    text::put(&i, &mut line, 0);
+    text::put(&y, &mut line, 5);
+    text::put(&q, &mut line, 14);
+    text::put(&s, &mut line, 23);
+    text::put(&p, &mut line, 32);
+    line
 }
 
 // The last line: reason and place.
