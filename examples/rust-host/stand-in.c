@@ -136,16 +136,6 @@ am29332_ran am29332_run(const uint8_t *sheet, size_t length, uint32_t *file,
     return (am29332_ran){outcome(v), {m.q, m.status}};
 }
 
-/* The pins that show a status. */
-static uint32_t pins(uint32_t status)
-{
-    return (status & AM29332_STATUS_C ? AM29332_PIN_C : 0) |
-           (status & AM29332_STATUS_Z ? AM29332_PIN_Z : 0) |
-           (status & AM29332_STATUS_N ? AM29332_PIN_N : 0) |
-           (status & AM29332_STATUS_V ? AM29332_PIN_V : 0) |
-           (status & AM29332_STATUS_L ? AM29332_PIN_L : 0);
-}
-
 /* The word's inputs are taken before it runs, and shown only if it ran. */
 am29332_stepped am29332_step(const uint8_t *sheet, size_t length,
                              uint32_t *file, size_t registers,
@@ -164,7 +154,7 @@ am29332_stepped am29332_step(const uint8_t *sheet, size_t length,
     am29332_ran ran = am29332_run(sheet, length, file, registers, machine,
                                   start, 1);
     if (ran.outcome.reason != AM29332_REASON_DONE || ran.outcome.place == 0)
-        shown = (struct model_answer){.pins = pins(ran.machine.status)};
+        shown = (struct model_answer){.pins = model_pins(ran.machine.status)};
     else
         ran.machine.status = shown.status; /* bit 13 by the word's own switch */
     return (am29332_stepped){ran.outcome, shown.y, shown.parity, ran.machine,
