@@ -33,7 +33,9 @@ case ${1:-20000} in
     awk 'END { print NR " cases, 0 missed" }' ../crates/interrupts/stdin > ../crates/interrupts/stdout
     ;;
 *)
-    said=$("$program" interrupts "${1:-20000}" | widen | ../tools/x86run.sh ../target/bin/interrupts)
+    interrupts=../target/bin/interrupts
+    [ -x "$interrupts" ] || { echo "interrupts.sh: no program target/bin/interrupts; run 'rt check interrupts' first" >&2; exit 2; }
+    said=$("$program" interrupts "${1:-20000}" | widen | ../tools/x86run.sh "$interrupts")
     echo "$said"
     [ "$said" = "${1:-20000} cases, 0 missed" ]
     ;;
