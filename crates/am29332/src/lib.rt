@@ -88,7 +88,7 @@ pub struct Interrupted {
 pub extern "C" fn am29332_library_version() -> u32
     ensures { λ r. ⌜ r ≡ libraryVersion ⌝ }
 {
-    0x03_00_00
+    0x04_00_00
 }
 
 // A fresh machine.

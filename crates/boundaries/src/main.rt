@@ -6,17 +6,17 @@
 //     UMULSTEP  code=0 x15 A=0 B=1 Y=1 write
 //     UMULLAST  code=0 A=0 B=1 Y=1 write
 //
-// The handler, on 8 registers:
+// The handler, on 8 registers; its words without write have Y 0, which names no register, though the multiplication names register 0:
 //
 //     PASS-STAT code=0 A=5 B=5 Y=6 write        # saves status and Q
 //     PASS-Q    code=0 A=5 B=5 Y=7 write
-//     LOADQ-A   code=0 A=2 B=5 Y=5
-//     LDSTAT-A  code=0 A=3 B=5 Y=5
+//     LOADQ-A   code=0 A=2 B=5
+//     LDSTAT-A  code=0 A=3 B=5
 //     UMULFIRST code=0 A=4 B=5 Y=5 write
 //     UMULSTEP  code=0 x15 A=4 B=5 Y=5 write
 //     UMULLAST  code=0 A=4 B=5 Y=5 write
-//     LOADQ-A   code=0 A=7 B=5 Y=5              # restores them
-//     LDSTAT-A  code=0 A=6 B=5 Y=5
+//     LOADQ-A   code=0 A=7 B=5                  # restores them
+//     LDSTAT-A  code=0 A=6 B=5
 use lines::print_word;
 use machine::Machine;
 

@@ -17,10 +17,21 @@ pub struct Call {
     pub allowance: usize,
 }
 
+// Y's field: 0 in a word that does not write, but for one in sixteen of them.
+fn field_y(how: u64, write: u32) -> u32
+    ensures { λ r. ⌜ r < 64 ⌝ }
+{
+    if (write == 0) & (draw::part(how, 32, 16) != 0) {
+        return 0;
+    }
+    draw::part(how, 12, 64)
+}
+
 // The word of a case, with its registers and whether Y is written.
 fn word_of(case: SingleWord, how: u64) -> Word
-    ensures { λ r. ⌜ (r .a < 64) × (r .b < 64) ⌝ }
+    ensures { λ r. ⌜ (r .a < 64) × (r .b < 64) × (r .y < 64) × (r .write < 2) ⌝ }
 {
+    let write = draw::part(how, 18, 2);
     Word {
         opcode: case.opcode,
         code: case.code,
@@ -28,8 +39,8 @@ fn word_of(case: SingleWord, how: u64) -> Word
         width: case.width,
         a: draw::part(how, 0, 64),
         b: draw::part(how, 6, 64),
-        y: draw::part(how, 12, 64),
-        write: draw::part(how, 18, 2),
+        y: field_y(how, write),
+        write,
         select: case.select,
         carry: case.carry,
         link: case.link,
@@ -108,12 +119,20 @@ fn blank() -> [u8; 16] {
     [0x10, 0x01, 0x80, 0, 0, 0, 0, 0, 0, 0, 0, 0, 0, 0, 0, 0]
 }
 
-// The word packed into the sheet, and the reason's number. The opcode is put in its place even where the word is refused.
+// Opcode, Y and write in their places.
+fn put_fields(sheet: &mut [u8], word: Word)
+    requires { ⌜ (length (now sheet) ≡ 16) × (word .y < 64) × (word .write < 2) ⌝ }
+{
+    sheet[4] = (word.opcode % 128) as u8 * 2 + sheet[4] % 2;
+    sheet[8] = (word.y * 4 + word.write * 2) as u8 + sheet[8] % 2;
+}
+
+// The word packed into the sheet, and the reason's number. Opcode, Y and write are put there even where the word is refused.
 fn put_word(sheet: &mut [u8], word: Word) -> u32
-    requires { ⌜ length (now sheet) ≡ 16 ⌝ }
+    requires { ⌜ (length (now sheet) ≡ 16) × (word .y < 64) × (word .write < 2) ⌝ }
 {
     let reason = reason_of(packing::pack(word, &mut sheet[4..10]));
-    sheet[4] = (word.opcode % 128) as u8 * 2 + sheet[4] % 2;
+    put_fields(sheet, word);
     reason
 }
 

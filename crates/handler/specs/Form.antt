@@ -14,7 +14,7 @@ use Rattle.packing.specs.Registers.{only, common, sourcesOf, destinationOf, nam
 use Rattle.sheet.specs.Sheet.{wordAt, wordsOf, sheetRows}
 use Rattle.sheet.specs.declared.Given.the-variants.{Absent}
 
--- s and q are the Y fields of words 0 and 1, even where those are at fault
+-- s and q are the Y fields of words 0 and 1 as they stand, written or not, even where those are at fault
 abbrev pub savesStatus : List ℕ → ℕ
 savesStatus h = wordAt h 0 .y
 

@@ -36,15 +36,7 @@ fn names_in(s: &[u8], n: usize) -> u64
     set
 }
 
-// ---- 11: the form. In these tests `|` asks all, without a branch for each.
-
-// The set of s and q.
-fn saves(s: u32, q: u32) -> u64
-    requires { ⌜ (s < 64) × (q < 64) ⌝ }
-    ensures { λ r. ⌜ r ≡ saves s q ⌝ }
-{
-    packing::only(s) | packing::only(q)
-}
+// ---- 11: the form. `saved` is the set of s and q. In these tests `|` asks all, without a branch for each.
 
 // Not a word of this opcode and write, or a byte code or a switch that is not 0.
 fn not_fixed(w: Word, opcode: u32, write: u32) -> bool
@@ -102,11 +94,10 @@ fn giving_back_fault(opcode: u32, back: u32, saved: u64, w: Word) -> bool
 }
 
 // Whether word k of n is at fault.
-fn fault(n: usize, s: u32, q: u32, k: usize, w: Word) -> bool
-    requires { ⌜ Narrow w × (s < 64) × (q < 64) × (k < n) ⌝ }
+fn fault(n: usize, s: u32, q: u32, saved: u64, k: usize, w: Word) -> bool
+    requires { ⌜ Narrow w × (saved ≡ saves s q) × (k < n) ⌝ }
     ensures { λ r. ⌜ r ≡ faultAt n s q k w ⌝ }
 {
-    let saved = saves(s, q);
     if k == 0 {
         return saving_status_fault(saved, w);
     }
@@ -139,13 +130,13 @@ fn misformed(place: usize) -> Check
 }
 
 // The first of n words that is at fault.
-fn first_misformed(h: &[u8], n: usize, s: u32, q: u32) -> Check
-    requires { ⌜ (4 + 6 * n ≤ length (now h)) × (s < 64) × (q < 64) ⌝ }
+fn first_misformed(h: &[u8], n: usize, s: u32, q: u32, saved: u64) -> Check
+    requires { ⌜ (4 + 6 * n ≤ length (now h)) × (saved ≡ saves s q) ⌝ }
     ensures { λ r. ⌜ r ≡ firstOf (rowsBy (formRow (now (h .entry)) n s q) 0 n) ⌝ }
 {
     let mut k: usize = 0;
     while k < n {
-        if fault(n, s, q, k, sheet::word_at(h, h, Which::Main, k)) {
+        if fault(n, s, q, saved, k, sheet::word_at(h, h, Which::Main, k)) {
             return misformed(k);
         }
         k += 1;
@@ -153,7 +144,8 @@ fn first_misformed(h: &[u8], n: usize, s: u32, q: u32) -> Check
     Check::Good
 }
 
-// Reason 11. Public for the crate above, which has checked the sheet.
+// Reason 11; s and q are the Y fields of the first two words as they stand, written or not. Public for the crate above, which has checked the
+// sheet.
 pub fn form(h: &[u8]) -> Check
     requires { ⌜ (4 ≤ length (now h)) × (4 + 6 * wordsOf (now h) ≤ length (now h)) ⌝ }
     ensures { λ r. ⌜ r ≡ formOf (now (h .entry)) ⌝ }
@@ -164,7 +156,8 @@ pub fn form(h: &[u8]) -> Check
     }
     let first = sheet::word_at(h, h, Which::Main, 0);
     let second = sheet::word_at(h, h, Which::Main, 1);
-    first_misformed(h, n, first.y, second.y)
+    let saved = packing::only(first.y) | packing::only(second.y);
+    first_misformed(h, n, first.y, second.y, saved)
 }
 
 // A sheet handed in as a handler, on its own: its own reasons, then the form.

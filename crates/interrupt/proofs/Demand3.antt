@@ -32,7 +32,7 @@ use Rattle.interrupt.proofs.Owners.{Names, Agree, Same, Handler, Line, 
 use Rattle.interrupt.proofs.NoTrace.{undisturbed, alike, untouched}
 use Rattle.interrupt.proofs.Lines.{a-line}
 use Rattle.interrupt.proofs.Verdicts.{Passed, passed, rising, interrupted-is}
-use Rattle.interrupt.proofs.Formed.{shares-none, all-named, y-named, ready-64, long, is-handler}
+use Rattle.interrupt.proofs.Formed.{shares-none, all-named, ready-64, long, saves-named, is-handler}
 use Rattle.interrupt.proofs.Told.{done-fine}
 
 -- ---- a sheet by itself
@@ -89,8 +89,8 @@ module _ (main h schedule file : List ℕ) (m : Machine) (registers : (r : ℕ) 
       let F : Handler own s₀ q₀ (executionsOf h) = is-handler h fits (p .form) in
       let common : (r : ℕ) → P r → isIn (namesIn h) r ≡ true → ⊥ = shares-none main h (p .overlap) in
       let apart : (r : ℕ) → P r → own r → ⊥ = λ r a o. common r a (o .named) in
-      let s-named : isIn (namesIn h) s₀ ≡ true = y-named h 0 (omega arith) in
-      let q-named : isIn (namesIn h) q₀ ≡ true = y-named h 1 (omega arith) in
+      let s-named : isIn (namesIn h) s₀ ≡ true = saves-named h fits (p .form) .0 in
+      let q-named : isIn (namesIn h) q₀ ≡ true = saves-named h fits (p .form) .1 in
       let s-apart : P s₀ → ⊥ = λ a. common s₀ a s-named in
       let q-apart : P q₀ → ⊥ = λ a. common q₀ a q-named in
       let l : Line (executionsOf h) (executionsOf main) (length schedule) line

@@ -40,8 +40,8 @@ in-words s k (suc n) j r lo hi e =
 pub named-in : (s : List ℕ) (k r : ℕ) → k < wordsOf s → isIn (namesOf (wordAt s k)) r ≡ true → isIn (namesIn s) r ≡ true
 named-in s k r h e = in-words s 0 (wordsOf s) k r (omega arith) (omega arith) e
 
-pub y-named : (s : List ℕ) (k : ℕ) → k < wordsOf s → isIn (namesIn s) (wordAt s k .y) ≡ true
-y-named s k h = named-in s k (wordAt s k .y) h (names-y (wordAt s k))
+y-named : (s : List ℕ) (k : ℕ) → k < wordsOf s → wordAt s k .write ≡ 1 → isIn (namesIn s) (wordAt s k .y) ≡ true
+y-named s k h e = named-in s k (wordAt s k .y) h (names-y (wordAt s k) (λ (z : wordAt s k .write ≡ 0). omega arith))
 
 -- a word of a sheet that passed
 pub ready-64 : (s : List ℕ) (n k : ℕ) → Ready s n → k < wordsOf s → WordReady 64 (wordAt s k)
@@ -171,15 +171,29 @@ module _ (h : List ℕ) (ready : (k : ℕ) → k < wordsOf h → WordReady 64 (w
         let e : eqb (n - k) 1 ≡ false = ne-eqb (n - k) 1 (λ (e : n - k ≡ 1). omega arith) in
         rw (l .0, l .1, l .2, l .3, d, e) at (no-fault k (omega arith))
 
+    saving-status : Fixed 0x04 1 (wordAt h 0)
+    unfolding savingStatusFault
+    saving-status = fixed (wordAt h 0) 0x04 1 (ready 0 (omega arith)) (or-left (notFixed (wordAt h 0) 0x04 1) (common (sourcesOf (wordAt h 0)) saved) f₀)
+
+    saving-q : Fixed 0x05 1 (wordAt h 1)
+    unfolding savingQFault
+    saving-q =
+        let w : Word = wordAt h 1 in
+        fixed w 0x05 1 (ready 1 (omega arith))
+        (or-left (notFixed w 0x05 1) (common (sourcesOf w) saved) (or-left (notFixed w 0x05 1 || common (sourcesOf w) saved) (eqb s q) f₁))
+
+    -- words 0 and 1 write, so s and q are named
+    both-named : (isIn (namesIn h) s ≡ true) × (isIn (namesIn h) q ≡ true)
+    both-named = (y-named h 0 (omega arith) (saving-status .write), y-named h 1 (omega arith) (saving-q .write))
+
     built : Handler (Own h) s q (executionsOf h)
-    unfolding executionsOf savingStatusFault savingQFault loadingFault givingBackFault
+    unfolding executionsOf savingQFault loadingFault givingBackFault
     built =
         let w₁ : Word = wordAt h 1 in
         let w₂ : Word = wordAt h 2 in
         let w₃ : Word = wordAt h 3 in
         let v₁ : Word = wordAt h (n - 2) in
         let v₂ : Word = wordAt h (n - 1) in
-        let e₁ = or-left (notFixed w₁ 0x05 1 || common (sourcesOf w₁) saved) (eqb s q) f₁ in
         let d₁ = or-left (notFixed v₁ 0x06 0 || differ (v₁ .a) q) (common (bitOr (only (v₁ .b)) (destinationOf v₁)) saved) g₁ in
         let d₂ = or-left (notFixed v₂ 0x1c 0 || differ (v₂ .a) s) (common (bitOr (only (v₂ .b)) (destinationOf v₂)) saved) g₂ in
         record {
@@ -194,9 +208,9 @@ module _ (h : List ℕ) (ready : (k : ℕ) → k < wordsOf h → WordReady 64 (w
           apart = eqb-false s q (or-right (notFixed w₁ 0x05 1 || common (sourcesOf w₁) saved) (eqb s q) f₁);
           s-out = λ o. o .not-s refl;
           q-out = λ o. o .not-q refl;
-          saves-status = fixed (wordAt h 0) 0x04 1 (ready 0 (omega arith)) (or-left (notFixed (wordAt h 0) 0x04 1) (common (sourcesOf (wordAt h 0)) saved) f₀);
+          saves-status = saving-status;
           to-s = refl;
-          saves-q = fixed w₁ 0x05 1 (ready 1 (omega arith)) (or-left (notFixed w₁ 0x05 1) (common (sourcesOf w₁) saved) e₁);
+          saves-q = saving-q;
           to-q = refl;
           loads-q = fixed w₂ 0x06 0 (ready 2 (omega arith)) (or-left (notFixed w₂ 0x06 0) (bodyFault saved w₂) f₂);
           loads-status = fixed w₃ 0x1c 0 (ready 3 (omega arith)) (or-left (notFixed w₃ 0x1c 0) (bodyFault saved w₃) f₃);
@@ -215,6 +229,13 @@ module _ (h : List ℕ) (ready : (k : ℕ) → k < wordsOf h → WordReady 64 (w
     where
       go : None (formRows h) → 6 ≤ n
       go (more x t) = ltb-false n 6 x
+
+  pub saves-named : formOf h ≡ Good → (isIn (namesIn h) s ≡ true) × (isIn (namesIn h) q ≡ true)
+  unfolding formOf
+  saves-named e = go (good-none (formRows h) e)
+    where
+      go : None (formRows h) → (isIn (namesIn h) s ≡ true) × (isIn (namesIn h) q ≡ true)
+      go (more x t) = both-named (ltb-false n 6 x) t
 
   pub is-handler : formOf h ≡ Good → Handler (Own h) s q (executionsOf h)
   unfolding formOf

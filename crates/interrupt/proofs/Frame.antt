@@ -1,8 +1,10 @@
 -- What a step reads and writes: two states that agree on the registers that words name, and on Q and status, agree after them; and a register
 -- that no word names stays.
-use mathlib.Core.Path.{_≡_, refl, sym, ap, _∙_, subst}
+use mathlib.Core.Path.{_≡_, refl, sym, ap, _∙_}
 use mathlib.Core.List.{List, [], _∷_}
+use mathlib.Core.Bool.{true}
 use Prim.Native.Nat.{ℕ, zero, suc, _<_}
+use native.Mathlib.Omega.{arith}
 use lib.ListN.{length}
 use Rattle.bits.specs.Bits.{choose}
 use Rattle.machine.specs.declared.Shown.{Shown}
@@ -10,6 +12,7 @@ use Rattle.chip.specs.declared.Word.{Word}
 use Rattle.chip.specs.Lists.{State, readAt, storeAt, written, shownOf, stepOf, execs}
 use Rattle.chip.proofs.Files.{read-same, read-other, store-agree}
 use Rattle.chip.proofs.Words.{step-size}
+use Rattle.packing.specs.Registers.{isIn, namesOf}
 use Rattle.packing.proofs.Registers.{names-a, names-b, names-y}
 use Rattle.run.specs.Run.{Sane}
 use Rattle.run.proofs.Laws.{step-sane}
@@ -18,14 +21,22 @@ use Rattle.sheet.proofs.Positions.All.{none, more}
 use Rattle.interrupt.proofs.Owners.{Names, Same}
 
 -- ---- one word
--- a register that is not Y stays
-pub step-other : (w : Word) (t : State) (r : ℕ) → (r ≡ w .y → ⊥) → readAt (stepOf w t .file) r ≡ readAt (t .file) r
+-- a register stays that is not Y where the word writes
+step-kept : (w : Word) (t : State) (r : ℕ) → ((w .write ≡ 0 → ⊥) → r ≡ w .y → ⊥) → readAt (stepOf w t .file) r ≡ readAt (t .file) r
 unfolding stepOf
-step-other w t r h = go (w .write)
+step-kept w t r h = go (w .write) refl
   where
-    go : (k : ℕ) → readAt (choose k (t .file) (storeAt (t .file) (w .y) (shownOf w t .y))) r ≡ readAt (t .file) r
-    go zero = refl
-    go (suc k) = read-other (t .file) (w .y) (shownOf w t .y) r h
+    go : (k : ℕ) → w .write ≡ k → readAt (choose k (t .file) (storeAt (t .file) (w .y) (shownOf w t .y))) r ≡ readAt (t .file) r
+    go zero e = refl
+    go (suc k) e = read-other (t .file) (w .y) (shownOf w t .y) r (h (λ (z : w .write ≡ 0). omega arith))
+
+-- so one that is not Y
+pub step-other : (w : Word) (t : State) (r : ℕ) → (r ≡ w .y → ⊥) → readAt (stepOf w t .file) r ≡ readAt (t .file) r
+step-other w t r h = step-kept w t r (λ n. h)
+
+-- and one that the word does not name
+pub step-unnamed : (w : Word) (t : State) (r : ℕ) → (isIn (namesOf w) r ≡ true → ⊥) → readAt (stepOf w t .file) r ≡ readAt (t .file) r
+step-unnamed w t r h = step-kept w t r (λ n e. h (ap (isIn (namesOf w)) e ∙ names-y w n))
 
 -- with no write all stay
 pub step-reads : (w : Word) (t : State) → w .write ≡ 0 → stepOf w t .file ≡ t .file
@@ -83,7 +94,7 @@ pub execs-other : (P : ℕ → Type 0) (ws : List Word) (t : State) (r : ℕ) �
 unfolding execs
 execs-other P [] t r h none = refl
 execs-other P (w ∷ ws) t r h (more n a) =
-    execs-other P ws (stepOf w t) r h a ∙ step-other w t r (λ e. h (subst P (sym e) (n .only (w .y) (names-y w))))
+    execs-other P ws (stepOf w t) r h a ∙ step-unnamed w t r (λ m. h (n .only r m))
 
 -- a state in range stays in range
 pub execs-kept : (P : ℕ → Type 0) (ws : List Word) (t : State) → All (Names P) ws → Sane t → Sane (execs ws t)

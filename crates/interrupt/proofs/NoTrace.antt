@@ -17,14 +17,13 @@ use Rattle.chip.specs.Glossary.{performOf}
 use Rattle.chip.specs.Lists.{State, readAt, inputsOf, shownOf, stepOf, execs}
 use Rattle.chip.proofs.Facts.{pass-stat, pass-q, load-q, load-stat}
 use Rattle.chip.proofs.Words.{step-size, execs-size, execs-append}
-use Rattle.packing.proofs.Registers.{names-y}
 use Rattle.run.specs.Run.{Sane}
 use Rattle.run.proofs.Laws.{step-sane}
 use Rattle.sheet.proofs.Positions.{All}
 use Rattle.sheet.proofs.Positions.All.{none, more}
 use Rattle.interrupt.proofs.Owners.{Names, Agree, Same, Handler, Line, times}
 use Rattle.interrupt.proofs.Owners.Line.{done, next, let-in}
-use Rattle.interrupt.proofs.Frame.{step-other, step-reads, step-stores, step-core, step-same, execs-same, execs-other, execs-kept}
+use Rattle.interrupt.proofs.Frame.{step-other, step-unnamed, step-reads, step-stores, step-core, step-same, execs-same, execs-other, execs-kept}
 
 -- what a fixed word shows, by its opcode and what that leaves
 does : (w : Word) (n : ℕ) (t : State) {o : Outputs} → w .opcode ≡ n → performOf n (inputsOf w t) ≡ o → shownOf w t ≡ shownBy (w .borrow) o
@@ -248,7 +247,7 @@ module _ (P own : ℕ → Type 0) (s q : ℕ) (h : List Word) (F : Handler own s
   alike (next {w} l) (more n ns) t u c d a =
       alike l ns (stepOf w t) u (step-sane 64 w t (n .ready) c) d (record {
         size = step-size w t ∙ a .size;
-        same = λ r o. step-other w t r (λ e. apart r (subst P (sym e) (n .only (w .y) (names-y w))) o) ∙ a .same r o;
+        same = λ r o. step-unnamed w t r (λ m. apart r (n .only r m) o) ∙ a .same r o;
       })
   alike (let-in {ms} {n} {ws} l) ns t u c d a =
       let b : Agree own (execs ws (execs h t)) (execs (times n h) (execs h u))
@@ -261,7 +260,7 @@ module _ (P own : ℕ → Type 0) (s q : ℕ) (h : List Word) (F : Handler own s
   unfolding execs
   untouched done none t r np nh ns nq = refl
   untouched (next {w} l) (more n m) t r np nh ns nq =
-      untouched l m (stepOf w t) r np nh ns nq ∙ step-other w t r (λ e. np (subst P (sym e) (n .only (w .y) (names-y w))))
+      untouched l m (stepOf w t) r np nh ns nq ∙ step-unnamed w t r (λ m. np (n .only r m))
   untouched (let-in {ms} {n} {ws} l) m t r np nh ns nq =
       ap (λ (u : State). readAt (u .file) r) (execs-append h ws t) ∙ untouched l m (execs h t) r np nh ns nq
       ∙ other-stays own s q h F t r nh ns nq

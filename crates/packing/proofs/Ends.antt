@@ -8,11 +8,11 @@ use lib.ListN.{length}
 use Rattle.chip.specs.declared.Word.{Word}
 use Rattle.reasons.specs.Reasons.{firstOf, checkNumbers}
 use Rattle.packing.specs.declared.Unpacked.{Unpacked}
-use Rattle.reasons.specs.declared.Reason.the-variants.{Opcode, Inputs, Spare, Room}
+use Rattle.reasons.specs.declared.Reason.the-variants.{Opcode, Inputs, Spare, Room, Idle}
 use Rattle.reasons.specs.declared.Check.{Check}
 use Rattle.reasons.specs.declared.Check.the-variants.{Good, Bad}
 use Rattle.chip.specs.Single.{lacksPage}
-use Rattle.packing.specs.Packing.{number6, fieldsOf, spareOf, tooLarge, packRows, packedInto, Packed, ended, packedBy, packOf, unpackRows, blank, unpackedBy, unpackOf}
+use Rattle.packing.specs.Packing.{number6, fieldsOf, spareOf, tooLarge, leftIdle, packRows, packedInto, Packed, ended, packedBy, packOf, unpackRows, blank, unpackedBy, unpackOf}
 
 module _ (w : Word) (d : List ℕ) where
   pub pack-opcode : lacksPage (w .opcode) ≡ true → ended (Bad Opcode 0) d ≡ packOf w d
@@ -23,13 +23,17 @@ module _ (w : Word) (d : List ℕ) where
   unfolding packOf
   pack-inputs e f = rw (e, f) refl
 
-  pub pack-room : lacksPage (w .opcode) ≡ false → tooLarge w ≡ false → length d < 6 → ended (Bad Room 0) d ≡ packOf w d
+  pub pack-idle : lacksPage (w .opcode) ≡ false → tooLarge w ≡ false → leftIdle w ≡ true → ended (Bad Idle 0) d ≡ packOf w d
   unfolding packOf
-  pack-room e f h = rw (e, f, lt-ltb (length d) 6 h) refl
+  pack-idle e f g = rw (e, f, g) refl
 
-  pub pack-done : lacksPage (w .opcode) ≡ false → tooLarge w ≡ false → 6 ≤ length d → ended Good (packedInto w d) ≡ packOf w d
+  pub pack-room : lacksPage (w .opcode) ≡ false → tooLarge w ≡ false → leftIdle w ≡ false → length d < 6 → ended (Bad Room 0) d ≡ packOf w d
   unfolding packOf
-  pack-done e f h = rw (e, f, le-ltb (length d) 6 h) refl
+  pack-room e f g h = rw (e, f, g, lt-ltb (length d) 6 h) refl
+
+  pub pack-done : lacksPage (w .opcode) ≡ false → tooLarge w ≡ false → leftIdle w ≡ false → 6 ≤ length d → ended Good (packedInto w d) ≡ packOf w d
+  unfolding packOf
+  pack-done e f g h = rw (e, f, g, le-ltb (length d) 6 h) refl
 
   -- the answer is what the table says, so a reason is given exactly when its condition holds and no earlier one does (`Rows` of `reasons`)
   pub pack-check : packOf w d .check ≡ firstOf (packRows w (length d))
@@ -58,15 +62,19 @@ module _ (s : List ℕ) where
   unfolding unpackOf
   unpack-spare h n = rw (le-ltb (length s) 6 h, ne-eqb (spareOf (number6 s)) 0 n) refl
 
-  pub unpack-opcode : 6 ≤ length s → spareOf (number6 s) ≡ 0 → lacksPage (fieldsOf (number6 s) .opcode) ≡ true
-      → unpackedBy (Bad Opcode 0) blank ≡ unpackOf s
+  pub unpack-idle : 6 ≤ length s → spareOf (number6 s) ≡ 0 → leftIdle (fieldsOf (number6 s)) ≡ true → unpackedBy (Bad Idle 0) blank ≡ unpackOf s
   unfolding unpackOf
-  unpack-opcode h z e = rw (le-ltb (length s) 6 h, eq-eqb (spareOf (number6 s)) 0 z, e) refl
+  unpack-idle h z i = rw (le-ltb (length s) 6 h, eq-eqb (spareOf (number6 s)) 0 z, i) refl
 
-  pub unpack-done : 6 ≤ length s → spareOf (number6 s) ≡ 0 → lacksPage (fieldsOf (number6 s) .opcode) ≡ false
-      → unpackedBy Good (fieldsOf (number6 s)) ≡ unpackOf s
+  pub unpack-opcode : 6 ≤ length s → spareOf (number6 s) ≡ 0 → leftIdle (fieldsOf (number6 s)) ≡ false
+      → lacksPage (fieldsOf (number6 s) .opcode) ≡ true → unpackedBy (Bad Opcode 0) blank ≡ unpackOf s
   unfolding unpackOf
-  unpack-done h z e = rw (le-ltb (length s) 6 h, eq-eqb (spareOf (number6 s)) 0 z, e) refl
+  unpack-opcode h z i e = rw (le-ltb (length s) 6 h, eq-eqb (spareOf (number6 s)) 0 z, i, e) refl
+
+  pub unpack-done : 6 ≤ length s → spareOf (number6 s) ≡ 0 → leftIdle (fieldsOf (number6 s)) ≡ false
+      → lacksPage (fieldsOf (number6 s) .opcode) ≡ false → unpackedBy Good (fieldsOf (number6 s)) ≡ unpackOf s
+  unfolding unpackOf
+  unpack-done h z i e = rw (le-ltb (length s) 6 h, eq-eqb (spareOf (number6 s)) 0 z, i, e) refl
 
   -- the answer is what the table says
   pub unpack-check : unpackOf s .check ≡ firstOf (unpackRows s)

@@ -10,6 +10,8 @@ use lib.Pow.{pow-pos, pow-lt, shl-shr}
 use lib.Bits.{bitAnd, bitOr, and-lt, or-lt, and-le-l, and-le-r, or-add-and}
 use Rattle.bits.specs.Bits.{bitOf}
 use Rattle.bits.proofs.BitByBit.{bit-lt, bit-and, bit-or, bit-ext, by-flag}
+use Rattle.bits.proofs.Bounds.{choose-lt}
+use Rattle.bits.proofs.Laws.{choose-one}
 use Rattle.chip.specs.declared.Word.{Word}
 use Rattle.packing.specs.Packing.{differ, fieldsOf}
 use Rattle.packing.specs.Registers.{only, isIn, common, sourcesOf, destinationOf, namesOf, Narrow}
@@ -80,7 +82,7 @@ only-lt r h = pow-lt h
 
 pub names-lt : (w : Word) → Narrow w → namesOf w < 2 ^ 64
 unfolding namesOf sourcesOf destinationOf
-names-lt w n = or-lt 64 _ _ (or-lt 64 _ _ (only-lt (w .a) (n .a)) (only-lt (w .b) (n .b))) (only-lt (w .y) (n .y))
+names-lt w n = or-lt 64 _ _ (or-lt 64 _ _ (only-lt (w .a) (n .a)) (only-lt (w .b) (n .b))) (choose-lt (w .write) 0 (only (w .y)) (2 ^ 64) (pow-pos 64) (only-lt (w .y) (n .y)))
 
 pub names-a : (w : Word) → isIn (namesOf w) (w .a) ≡ true
 unfolding namesOf sourcesOf destinationOf
@@ -90,9 +92,14 @@ pub names-b : (w : Word) → isIn (namesOf w) (w .b) ≡ true
 unfolding namesOf sourcesOf destinationOf
 names-b w = simp (in-or, in-only, or-true)
 
-pub names-y : (w : Word) → isIn (namesOf w) (w .y) ≡ true
-unfolding namesOf sourcesOf destinationOf
-names-y w = simp (in-or, in-only, or-true)
+-- Y where the word writes
+pub destination-y : (w : Word) → (w .write ≡ 0 → ⊥) → destinationOf w ≡ only (w .y)
+unfolding destinationOf
+destination-y w h = choose-one (w .write) 0 (only (w .y)) h
+
+pub names-y : (w : Word) → (w .write ≡ 0 → ⊥) → isIn (namesOf w) (w .y) ≡ true
+unfolding namesOf
+names-y w h = rw (destination-y w h) (simp (in-or, in-only, or-true))
 
 -- the register fields of any number have six bits
 pub narrow : (v : ℕ) → Narrow (fieldsOf v)

@@ -1,12 +1,12 @@
 -- A word of a sheet: six bytes, which are one number of 48 bits, most significant first; its fields; packing and unpacking with their
--- reasons (document 01, 'Sheets and words' and 'Reasons given').
+-- reasons (document 01, 'Sheets and words' and 'Reasons given'; Idle is document 02's, request 5).
 use mathlib.Core.List.{List, [], _∷_, _++_}
-use mathlib.Core.Bool.{Bool, false, not, _||_}
+use mathlib.Core.Bool.{Bool, false, not, _&&_, _||_}
 use Prim.Native.Nat.{ℕ, _+_, _*_, _/_, _%_, _^_, _<_}
 use lib.ListN.{length, getD, drop}
 use lib.Dec.{eqb, ltb}
 use Rattle.reasons.specs.Reasons.{Row, _gives_at_, firstOf}
-use Rattle.reasons.specs.declared.Reason.the-variants.{Opcode, Inputs, Spare, Room}
+use Rattle.reasons.specs.declared.Reason.the-variants.{Opcode, Inputs, Spare, Room, Idle}
 use Rattle.reasons.specs.declared.Check.{Check}
 use Rattle.reasons.specs.declared.Check.the-variants.{Good, Bad}
 use Rattle.chip.specs.declared.Word.{Word}
@@ -72,6 +72,10 @@ tooLarge w =
 abbrev pub differ : ℕ → ℕ → Bool
 differ m n = not (eqb m n)
 
+-- Idle: a word with write 0 whose Y field is not 0
+unfoldable pub leftIdle : Word → Bool
+leftIdle w = eqb (w .write) 0 && differ (w .y) 0
+
 -- a word whose fields its bits hold
 pub record InRange (w : Word) : Type 0 where
   pub opcode : w .opcode < 128
@@ -87,9 +91,14 @@ pub record InRange (w : Word) : Type 0 where
   pub link : w .link < 2
   pub borrow : w .borrow < 2
 
--- ---- packing: 1, 2, 14
+-- ---- packing: 1, 2, 17, 14
 abbrev pub packRows : Word → ℕ → List Row
-packRows w room = (lacksPage (w .opcode) gives Opcode at 0) ∷ (tooLarge w gives Inputs at 0) ∷ (ltb room 6 gives Room at 0) ∷ []
+packRows w room =
+    (lacksPage (w .opcode) gives Opcode at 0)
+    ∷ (tooLarge w gives Inputs at 0)
+    ∷ (leftIdle w gives Idle at 0)
+    ∷ (ltb room 6 gives Room at 0)
+    ∷ []
 
 -- what a buffer holds once the word is packed into it: its bytes past the sixth stay
 abbrev pub packedInto : Word → List ℕ → List ℕ
@@ -111,11 +120,12 @@ packedBy (Bad r p) w d = ended (Bad r p) d
 unfoldable pub packOf : Word → List ℕ → Packed
 packOf w d = packedBy (firstOf (packRows w (length d))) w d
 
--- ---- unpacking: 14, 8, 1
+-- ---- unpacking: 14, 8, 17, 1
 abbrev pub unpackRows : List ℕ → List Row
 unpackRows s =
     (ltb (length s) 6 gives Room at 0)
     ∷ (differ (spareOf (number6 s)) 0 gives Spare at 0)
+    ∷ (leftIdle (fieldsOf (number6 s)) gives Idle at 0)
     ∷ (lacksPage (fieldsOf (number6 s) .opcode) gives Opcode at 0)
     ∷ []
 

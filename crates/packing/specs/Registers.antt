@@ -1,11 +1,11 @@
--- Sets of registers as numbers, register r with weight 2 ^ r, and which registers a word names (document 01, 'The handler's form': all
--- three fields count, used or not).
+-- Sets of registers as numbers, register r with weight 2 ^ r, and which registers a word names (document 01, 'The handler's form': A and B
+-- count, used or not; document 02, request 5: Y counts where the word writes).
 use mathlib.Core.List.{List, [], _∷_}
 use mathlib.Core.Bool.{Bool}
 use Prim.Native.Nat.{ℕ, _^_, _<_}
 use lib.Bits.{bitAnd, bitOr}
 use lib.Dec.{eqb}
-use Rattle.bits.specs.Bits.{bitOf}
+use Rattle.bits.specs.Bits.{bitOf, choose}
 use Rattle.chip.specs.declared.Word.{Word}
 use Rattle.packing.specs.Packing.{differ}
 
@@ -26,9 +26,9 @@ common s t = differ (bitAnd s t) 0
 unfoldable pub sourcesOf : Word → ℕ
 sourcesOf w = bitOr (only (w .a)) (only (w .b))
 
--- as destination: Y
+-- as destination: Y, and none where write is 0
 unfoldable pub destinationOf : Word → ℕ
-destinationOf w = only (w .y)
+destinationOf w = choose (w .write) 0 (only (w .y))
 
 unfoldable pub namesOf : Word → ℕ
 namesOf w = bitOr (sourcesOf w) (destinationOf w)

@@ -3,12 +3,14 @@ use chip::Word;
 use reasons::Check;
 use reasons::Reason;
 ghost use mathlib.Core.Path.{_≡_};
+ghost use mathlib.Core.Bool.{not, _&&_};
 ghost use mathlib.Core.List.{_∷_, _++_};
 ghost use Prim.Native.Nat.{_+_, _*_, _%_, _^_, _<_, _≤_};
 ghost use lib.ListN.{length, drop};
 ghost use lib.Dec.{leb};
+ghost use Rattle.bits.specs.Bits.{choose};
 ghost use Rattle.reasons.specs.Reasons.{firstOf, checkNumbers};
-ghost use Rattle.packing.specs.Packing.{number6, fieldsOf, packedNumber, bytes6, some, registerFields, tooLarge, InRange, packRows, ended, packOf, unpackRows, unpackOf, unpackedBy, blank};
+ghost use Rattle.packing.specs.Packing.{number6, fieldsOf, packedNumber, bytes6, some, registerFields, tooLarge, leftIdle, InRange, packRows, ended, packOf, unpackRows, unpackOf, unpackedBy, blank};
 ghost use Rattle.packing.specs.Registers.{only, sourcesOf, destinationOf, namesOf, Narrow};
 
 // What unpacking answers: the word where the check is good, else all fields 0.
@@ -74,6 +76,30 @@ pub fn too_large(w: Word) -> bool
     )
         | names_from(64, w)
         | (1 < w.write)
+}
+
+// Whether Y's field is left idle: not 0 in a word that does not write. Public for the crates above.
+pub fn left_idle(w: Word) -> bool
+    ensures { λ r. ⌜ r ≡ leftIdle w ⌝ }
+{
+    (w.write == 0) & (w.y != 0)
+}
+
+// What Y's field has to be below: n, and 1 where the word does not write.
+fn below_y(n: u32, write: u32) -> u32
+    ensures { λ r. ⌜ r ≡ choose write 1 n ⌝ }
+{
+    if write == 0 {
+        return 1;
+    }
+    n
+}
+
+// Whether Y's field is not left idle and no register field holds n or more: both at once, as the check of a sheet asks of every word.
+pub fn fits_file(n: u32, w: Word) -> bool
+    ensures { λ r. ⌜ r ≡ (not (leftIdle w) && not (some (leb n) (registerFields w))) ⌝ }
+{
+    (w.a < n) & (w.b < n) & (w.y < below_y(n, w.write))
 }
 
 // The number of a word's fields.
@@ -157,11 +183,14 @@ pub fn sources(w: Word) -> u64
     only(w.a) | only(w.b)
 }
 
-// As destination: Y, used or not.
+// As destination: Y, and none where the word does not write.
 pub fn destination(w: Word) -> u64
     requires { ⌜ Narrow w ⌝ }
     ensures { λ s. ⌜ s ≡ destinationOf w ⌝ }
 {
+    if w.write == 0 {
+        return 0;
+    }
     only(w.y)
 }
 
@@ -189,6 +218,12 @@ pub fn pack(w: Word, d: &mut [u8]) -> Check
     if too_large(w) {
         return Check::Bad {
             reason: Reason::Inputs,
+            place: 0,
+        };
+    }
+    if left_idle(w) {
+        return Check::Bad {
+            reason: Reason::Idle,
             place: 0,
         };
     }
@@ -225,6 +260,9 @@ pub fn unpack(s: &[u8]) -> Unpacked
         return refused(Reason::Spare);
     }
     let word = fields(number);
+    if left_idle(word) {
+        return refused(Reason::Idle);
+    }
     if chip::lacks_page(word.opcode) {
         return refused(Reason::Opcode);
     }

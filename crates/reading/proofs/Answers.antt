@@ -49,7 +49,7 @@ head-tells (Declared v n) = (omega arith, (omega arith, tt))
 -- of a word's line's
 line-tells : (n k : ℕ) (x : Line) → Telling (lineRows n k x)
 line-tells n k Outside = (omega arith, tt)
-line-tells n k (Read w) = (omega arith, (omega arith, tt))
+line-tells n k (Read w) = (omega arith, (omega arith, (omega arith, tt)))
 
 -- of all words' lines'
 lines-tell : (n k : ℕ) (ls : List (List ℕ)) → Telling (linesRows n k ls)
@@ -93,7 +93,7 @@ head-others (Declared v n) = (refl, (refl, tt))
 -- of a word's line's
 line-others : (n k : ℕ) (x : Line) → Others (lineRows n k x)
 line-others n k Outside = (refl, tt)
-line-others n k (Read w) = (refl, (refl, tt))
+line-others n k (Read w) = (refl, (refl, (refl, tt)))
 
 -- of two such tables, one after the other
 others-on : (a b : List Row) → Others a → Others b → Others (a ++ b)

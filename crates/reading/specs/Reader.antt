@@ -1,14 +1,14 @@
--- The reader: the sheet that a text stands for, into a lent buffer, or the reason why not and the line (document 02, request 2).
+-- The reader: the sheet that a text stands for, into a lent buffer, or the reason why not and the line (document 02, requests 2 and 5).
 use mathlib.Core.List.{List, [], _∷_, _++_}
 use mathlib.Core.Bool.{true, not, _||_}
 use Prim.Native.Nat.{ℕ, _+_, _*_, _/_, _%_, _^_}
 use lib.ListN.{length, getD, drop}
 use lib.Dec.{eqb, ltb, leb}
 use Rattle.reasons.specs.Reasons.{Row, _gives_at_, firstOf}
-use Rattle.reasons.specs.declared.Reason.the-variants.{Inputs, Version, Header, Register, Room, Text, Count}
+use Rattle.reasons.specs.declared.Reason.the-variants.{Inputs, Version, Header, Register, Room, Text, Count, Idle}
 use Rattle.text.specs.Ascii.{newline}
 use Rattle.chip.specs.declared.Word.{Word}
-use Rattle.packing.specs.Packing.{packedNumber, bytes6, some, registerFields, tooLarge, differ, InRange, blank}
+use Rattle.packing.specs.Packing.{packedNumber, bytes6, some, registerFields, tooLarge, leftIdle, differ, InRange, blank}
 use Rattle.reasons.specs.Output.{Wrote, wroteBy}
 use Rattle.grammar.specs.declared.Line.{Line}
 use Rattle.grammar.specs.declared.Line.the-variants.{Read, Outside}
@@ -45,10 +45,14 @@ headRows NoHead = (true gives Text at 0) ∷ []
 headRows (Declared version registers) =
     (differ version 1 gives Version at 0) ∷ ((eqb registers 0 || ltb 64 registers) gives Header at 0) ∷ []
 
--- line k, a word's, of a sheet of n registers: 15; 2, 9
+-- line k, a word's, of a sheet of n registers: 15; 2, 17, 9
 abbrev pub lineRows : ℕ → ℕ → Line → List Row
 lineRows n k Outside = (true gives Text at k) ∷ []
-lineRows n k (Read w) = (tooLarge w gives Inputs at k) ∷ (some (leb n) (registerFields w) gives Register at k) ∷ []
+lineRows n k (Read w) =
+    (tooLarge w gives Inputs at k)
+    ∷ (leftIdle w gives Idle at k)
+    ∷ (some (leb n) (registerFields w) gives Register at k)
+    ∷ []
 
 -- the words' lines in order, from line k on
 unfoldable pub linesRows : ℕ → ℕ → List (List ℕ) → List Row

@@ -68,7 +68,7 @@ fn check_first(version: u32, registers: u32) -> Check
     Check::Good
 }
 
-// Reasons 15, 2 and 9 of line k, a word's, in a sheet of n registers.
+// Reasons 15, 2, 17 and 9 of line k, a word's, in a sheet of n registers.
 fn check_line(line: &[u8], n: u32, k: usize) -> Check
     ensures { λ r. ⌜ r ≡ firstOf (lineRows n k (wordIn (now (line .entry)))) ⌝ }
 {
@@ -82,6 +82,12 @@ fn check_line(line: &[u8], n: u32, k: usize) -> Check
     if packing::too_large(w) {
         return Check::Bad {
             reason: Reason::Inputs,
+            place: k,
+        };
+    }
+    if packing::left_idle(w) {
+        return Check::Bad {
+            reason: Reason::Idle,
             place: k,
         };
     }

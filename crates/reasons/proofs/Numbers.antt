@@ -8,7 +8,7 @@ use lib.ListN.{getD}
 use Rattle.reasons.specs.Reasons.{Row, firstOf, rowsBy, orElse, numberOf, checkNumbers}
 use Rattle.reasons.specs.declared.Outcome.{Outcome}
 use Rattle.reasons.specs.declared.Reason.{Reason}
-use Rattle.reasons.specs.declared.Reason.the-variants.{Done, Opcode, Inputs, Short, Version, Header, Length, File, Spare, Register, Start, Form, Overlap, Schedule, Room, Text, Count}
+use Rattle.reasons.specs.declared.Reason.the-variants.{Done, Opcode, Inputs, Short, Version, Header, Length, File, Spare, Register, Start, Form, Overlap, Schedule, Room, Text, Count, Idle}
 use Rattle.reasons.specs.declared.Check.{Check}
 use Rattle.reasons.specs.declared.Check.the-variants.{Good, Bad}
 
@@ -16,7 +16,7 @@ use Rattle.reasons.specs.declared.Check.the-variants.{Good, Bad}
 -- in the order of their numbers
 abbrev inOrder : List Reason
 inOrder =
-    Done ∷ Opcode ∷ Inputs ∷ Short ∷ Version ∷ Header ∷ Length ∷ File ∷ Spare ∷ Register ∷ Start ∷ Form ∷ Overlap ∷ Schedule ∷ Room ∷ Text ∷ Count ∷ []
+    Done ∷ Opcode ∷ Inputs ∷ Short ∷ Version ∷ Header ∷ Length ∷ File ∷ Spare ∷ Register ∷ Start ∷ Form ∷ Overlap ∷ Schedule ∷ Room ∷ Text ∷ Count ∷ Idle ∷ []
 
 at-number : (r : Reason) → getD inOrder (numberOf r) Done ≡ r
 at-number Done = refl
@@ -36,6 +36,7 @@ at-number Schedule = refl
 at-number Room = refl
 at-number Text = refl
 at-number Count = refl
+at-number Idle = refl
 
 -- no two have the same number
 pub number-once : (r q : Reason) → numberOf r ≡ numberOf q → r ≡ q

@@ -1,9 +1,9 @@
--- The reasons given (document 01's table; 15 and 16 are document 02's, request 2): their numbers, and tables of rows in their order.
+-- The reasons given (document 01's table; 15 and 16 are document 02's, request 2, and 17 is of request 5): their numbers, and tables of rows in their order.
 use mathlib.Core.List.{List, [], _∷_, _++_}
 use mathlib.Core.Bool.{Bool, true, false, not, _&&_}
 use Prim.Native.Nat.{ℕ, zero, suc, _+_}
 use Rattle.reasons.specs.declared.Reason.{Reason}
-use Rattle.reasons.specs.declared.Reason.the-variants.{Done, Opcode, Inputs, Short, Version, Header, Length, File, Spare, Register, Start, Form, Overlap, Schedule, Room, Text, Count}
+use Rattle.reasons.specs.declared.Reason.the-variants.{Done, Opcode, Inputs, Short, Version, Header, Length, File, Spare, Register, Start, Form, Overlap, Schedule, Room, Text, Count, Idle}
 use Rattle.reasons.specs.declared.Check.{Check}
 use Rattle.reasons.specs.declared.Check.the-variants.{Good, Bad}
 use Rattle.reasons.specs.declared.Outcome.{Outcome}
@@ -26,6 +26,7 @@ numberOf Schedule = 13
 numberOf Room = 14
 numberOf Text = 15
 numberOf Count = 16
+numberOf Idle = 17
 
 -- an answer in numbers: the reason's number, and the place
 abbrev pub outcomeOf : Reason → ℕ → Outcome

@@ -21,6 +21,7 @@ pub enum Reason {
     Room,
     Text,
     Count,
+    Idle,
 }
 
 // Nothing to refuse, or the reason and its place.
@@ -64,6 +65,7 @@ pub fn number(r: Reason) -> u32
         Reason::Room => 14,
         Reason::Text => 15,
         Reason::Count => 16,
+        Reason::Idle => 17,
     }
 }
 

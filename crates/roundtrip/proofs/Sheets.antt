@@ -15,7 +15,7 @@ use Rattle.reasons.specs.Reasons.{rowsBy}
 use Rattle.reasons.specs.declared.Check.the-variants.{Good}
 use Rattle.reasons.proofs.Rows.{None, good-none, none-good, none-left, none-both, none-at}
 use Rattle.reasons.proofs.Rows.None.{none, more}
-use Rattle.packing.specs.Packing.{number6, fieldsOf, spareOf, packedNumber, bytes6, some, registerFields, tooLarge, differ, InRange}
+use Rattle.packing.specs.Packing.{number6, fieldsOf, spareOf, packedNumber, bytes6, some, registerFields, tooLarge, leftIdle, differ, InRange}
 use Rattle.packing.proofs.Numbers.{or-left, fields-packed, fields-fit, packed-spare, packed-lt, packed-fields, number-bytes, bytes-number}
 use Rattle.sheet.specs.declared.Given.the-variants.{Absent}
 use Rattle.sheet.specs.Sheet.{number4, versionOf, countOf, registersOf, zerosOf, wordsOf, declaredOf, partOf, numberAt, wordAt, wordsFrom, allWords, numberRows, wordRows, rowsBeside, sheetRows, checkBeside, checkOf, WordReady, Ready}
@@ -110,8 +110,9 @@ number-none : (n k v : ℕ) (w : Word) → WordReady n w → v ≡ packedNumber 
 number-none n k v w h e =
     let f : fieldsOf v ≡ w = ap fieldsOf e ∙ fields-packed w (h .range) in
     more (no-differ (spareOf v) 0 (ap (λ (x : ℕ). spareOf x) e ∙ packed-spare w))
+    (more (ap leftIdle f ∙ h .not-idle)
     (more (ap (λ (x : Word). lacksPage (x .opcode)) f ∙ h .page)
-    (more (ap (λ (x : Word). some (leb n) (registerFields x)) f ∙ registers-below n w h) none))
+    (more (ap (λ (x : Word). some (leb n) (registerFields x)) f ∙ registers-below n w h) none)))
 
 -- nor are those of words one after another
 rows-made : (n : ℕ) (s : List ℕ) (k : ℕ) (ws : List Word) → All (WordReady n) ws → drop (4 + 6 * k) s ≡ packedAll ws

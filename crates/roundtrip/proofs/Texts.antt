@@ -70,15 +70,16 @@ module _ (n : ℕ) where
   unfolding linesRows
   said-rows k no-line = none
   said-rows k (line {w} {ls} e h s) =
-      rw e (more (fields-small w (h .range)) (more (registers-below n w h) (said-rows (k + 1) s)))
+      rw e (more (fields-small w (h .range)) (more (h .not-idle) (more (registers-below n w h) (said-rows (k + 1) s))))
 
   -- and a line that is not refused says a word that can be run
   word-ready : (l : List ℕ) (w : Word) (k : ℕ) → wordIn l ≡ Read w → None (lineRows n k (Read w)) → WordReady n w
-  word-ready l w k e (more h₁ (more h₂ none)) = go (every (leb n) (registerFields w) h₂)
+  word-ready l w k e (more h₁ (more h₂ (more h₃ none))) = go (every (leb n) (registerFields w) h₃)
     where
       go : Every (leb n) (registerFields w) → WordReady n w
       go (and a (and b (and y end))) =
           record {
+            not-idle = h₂;
             page = word-page l w e;
             range = in-range w (word-page l w e) h₁;
             a = leb-false n (w .a) a;

@@ -22,7 +22,14 @@ use Rattle.run.specs.Run.{stateOf, Sane, Stepped, Went}
 -- ---- a word that can be run
 -- on a file can be run on a larger one
 pub word-larger : (n m : ℕ) (w : Word) → n ≤ m → WordReady n w → WordReady m w
-word-larger n m w h r = record { page = r .page; range = r .range; a = omega (arith, r .a); b = omega (arith, r .b); y = omega (arith, r .y) }
+word-larger n m w h r = record {
+  not-idle = r .not-idle;
+  page = r .page;
+  range = r .range;
+  a = omega (arith, r .a);
+  b = omega (arith, r .b);
+  y = omega (arith, r .y);
+}
 
 -- a word of a sheet that can be run on a file
 pub word-ready : (s : List ℕ) (n k : ℕ) → Ready s n → k < wordsOf s → WordReady n (wordAt s k)

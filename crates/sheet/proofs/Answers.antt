@@ -15,7 +15,7 @@ use Rattle.sheet.proofs.Table.{tail}
 -- ---- in numbers
 words-tell : (s : List ℕ) (n k : ℕ) → Telling (wordRows s n k)
 unfolding wordRows
-words-tell s n k = (omega arith, (omega arith, (omega arith, tt)))
+words-tell s n k = (omega arith, (omega arith, (omega arith, (omega arith, tt))))
 
 pub rows-tell : (s : List ℕ) (file start : Given) → Telling (sheetRows s file start)
 unfolding rowsBeside

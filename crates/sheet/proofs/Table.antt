@@ -95,13 +95,14 @@ given-only beside s file start r p e = exactly-only (rowsBeside beside s file st
 -- ---- what a sheet that passed has
 word-ready : (s : List ℕ) (n k : ℕ) → None (wordRows s n k) → WordReady n (wordAt s k)
 unfolding wordRows
-word-ready s n k (more h₁ (more h₂ (more h₃ none))) = go (every (leb n) (registerFields (wordAt s k)) h₃)
+word-ready s n k (more h₁ (more h₂ (more h₃ (more h₄ none)))) = go (every (leb n) (registerFields (wordAt s k)) h₄)
   where
     go : Every (leb n) (registerFields (wordAt s k)) → WordReady n (wordAt s k)
     go (and a (and b (and y end))) =
         record {
-          page = h₂;
-          range = fields-range (numberAt s k) (page-small (wordAt s k .opcode) h₂);
+          not-idle = h₂;
+          page = h₃;
+          range = fields-range (numberAt s k) (page-small (wordAt s k .opcode) h₃);
           a = leb-false n (wordAt s k .a) a;
           b = leb-false n (wordAt s k .b) b;
           y = leb-false n (wordAt s k .y) y;

@@ -1,5 +1,5 @@
 -- A sheet: its header, its words, and the reasons for which it is refused, as one ordered table (document 01, 'Sheets and words' and
--- 'Reasons given').
+-- 'Reasons given'; Idle is document 02's, request 5).
 use mathlib.Core.Path.{_≡_}
 use mathlib.Core.List.{List, [], _∷_, _++_}
 use mathlib.Core.Bool.{Bool, false, _||_}
@@ -8,7 +8,7 @@ use lib.ListN.{length, getD, take, drop}
 use lib.Dec.{eqb, ltb, leb}
 use Rattle.bits.specs.Bits.{bytes4}
 use Rattle.reasons.specs.Reasons.{Row, _gives_at_, firstOf, rowsBy}
-use Rattle.reasons.specs.declared.Reason.the-variants.{Opcode, Short, Version, Header, Length, File, Spare, Register, Start}
+use Rattle.reasons.specs.declared.Reason.the-variants.{Opcode, Short, Version, Header, Length, File, Spare, Register, Start, Idle}
 use Rattle.reasons.specs.declared.Check.{Check}
 use Rattle.chip.specs.declared.Word.{Word}
 use Rattle.sheet.specs.declared.Which.{Which}
@@ -16,7 +16,7 @@ use Rattle.sheet.specs.declared.Which.the-variants.{Main, Handler}
 use Rattle.sheet.specs.declared.Given.{Given}
 use Rattle.sheet.specs.declared.Given.the-variants.{Absent, Number}
 use Rattle.chip.specs.Single.{lacksPage}
-use Rattle.packing.specs.Packing.{number6, fieldsOf, spareOf, some, registerFields, differ, InRange}
+use Rattle.packing.specs.Packing.{number6, fieldsOf, spareOf, some, registerFields, leftIdle, differ, InRange}
 use Rattle.packing.specs.Registers.{namesAll}
 
 -- ---- the header: four bytes as one number of 32 bits
@@ -96,10 +96,11 @@ above Absent n = false
 above (Number start) n = ltb n start
 
 -- ---- the table
--- word k, whose number is v, of a sheet of n registers: 8, 1, 9
+-- word k, whose number is v, of a sheet of n registers: 8, 17, 1, 9
 abbrev pub numberRows : ℕ → ℕ → ℕ → List Row
 numberRows v n k =
     (differ (spareOf v) 0 gives Spare at k)
+    ∷ (leftIdle (fieldsOf v) gives Idle at k)
     ∷ (lacksPage (fieldsOf v .opcode) gives Opcode at k)
     ∷ (some (leb n) (registerFields (fieldsOf v)) gives Register at k)
     ∷ []
@@ -126,7 +127,7 @@ headRows beside len h file = openingRows h ++ sizeRows beside len h file
 abbrev pub startRows : Given → ℕ → List Row
 startRows start n = (above start n gives Start at 0) ∷ []
 
--- 3 to 7, then words in order, in each 8, 1, 9; then 10
+-- 3 to 7, then words in order, in each 8, 17, 1, 9; then 10
 unfoldable pub rowsBeside : ℕ → List ℕ → Given → Given → List Row
 rowsBeside beside s file start =
     (ltb (length s) 4 gives Short at 0)
@@ -151,6 +152,7 @@ inputOf x = checkBeside 4 x Absent Absent
 -- ---- what a sheet that passed has
 -- a word that can be run on n registers
 pub record WordReady (n : ℕ) (w : Word) : Type 0 where
+  pub not-idle : leftIdle w ≡ false
   pub page : lacksPage (w .opcode) ≡ false
   pub range : InRange w
   pub a : w .a < n

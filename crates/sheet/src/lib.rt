@@ -204,7 +204,7 @@ fn check_header(beside: usize, len: usize, h: u32, file: Given) -> Check
     Check::Good
 }
 
-// Reasons 8, 1 and 9 of word k, whose number is v, in a sheet of n registers.
+// Reasons 8, 17, 1 and 9 of word k, whose number is v, in a sheet of n registers.
 fn check_number(v: u64, n: u32, k: usize) -> Check
     ensures { λ r. ⌜ r ≡ firstOf (numberRows v n k) ⌝ }
 {
@@ -215,6 +215,12 @@ fn check_number(v: u64, n: u32, k: usize) -> Check
         };
     }
     let w = packing::fields(v);
+    if packing::left_idle(w) {
+        return Check::Bad {
+            reason: Reason::Idle,
+            place: k,
+        };
+    }
     if chip::lacks_page(w.opcode) {
         return Check::Bad {
             reason: Reason::Opcode,
@@ -230,7 +236,7 @@ fn check_number(v: u64, n: u32, k: usize) -> Check
     Check::Good
 }
 
-// Reasons 8, 1 and 9 of word k, from the sheet's bytes.
+// Reasons 8, 17, 1 and 9 of word k, from the sheet's bytes.
 fn check_word(s: &[u8], n: u32, k: usize) -> Check
     requires { ⌜ 4 + 6 * k + 6 ≤ length (now s) ⌝ }
     ensures { λ r. ⌜ r ≡ firstOf (wordRows (now (s .entry)) n k) ⌝ }
@@ -259,7 +265,7 @@ fn sound(v: u64, n: u32) -> bool
     ensures { λ r. ⌜ r ≡ noneHold (numberRows v n 0) ⌝ }
 {
     let w = packing::fields(v);
-    (v % 32 == 0) & !chip::lacks_page(w.opcode) & !packing::names_from(n, w)
+    (v % 32 == 0) & !chip::lacks_page(w.opcode) & packing::fits_file(n, w)
 }
 
 // Whether no word has a fault. Nearly every sheet is sound, and this loop has one branch a word.

@@ -7,7 +7,7 @@ use native.Mathlib.Omega.{arith}
 use lib.ListN.{length, getD, take, drop, length-append}
 use lib.Dec.{ltb}
 use Rattle.reasons.specs.declared.Reason.{Reason}
-use Rattle.reasons.specs.declared.Reason.the-variants.{Done, Opcode, Inputs, Short, Version, Header, Length, File, Spare, Register, Start, Form, Overlap, Schedule, Room, Text, Count}
+use Rattle.reasons.specs.declared.Reason.the-variants.{Done, Opcode, Inputs, Short, Version, Header, Length, File, Spare, Register, Start, Form, Overlap, Schedule, Room, Text, Count, Idle}
 use Rattle.reasons.specs.declared.Check.{Check}
 use Rattle.reasons.specs.declared.Check.the-variants.{Good, Bad}
 use Rattle.reasons.specs.declared.Output.{Output}
@@ -89,6 +89,7 @@ name-length Schedule = omega arith
 name-length Room = omega arith
 name-length Text = omega arith
 name-length Count = omega arith
+name-length Idle = omega arith
 
 pub expected-length : (reason : Reason) → length (ascii (expectedOf reason)) ≤ 100
 expected-length Done = omega arith
@@ -108,6 +109,7 @@ expected-length Schedule = omega arith
 expected-length Room = omega arith
 expected-length Text = omega arith
 expected-length Count = omega arith
+expected-length Idle = omega arith
 
 pub place-length : (p : Bool) (counted : List ℕ) (place : ℕ) → length (placeBy p counted place) ≤ length counted + 10
 place-length false counted place = omega arith

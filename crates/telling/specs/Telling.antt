@@ -6,7 +6,7 @@ use Prim.Native.Nat.{ℕ, _%_}
 use Prim.Native.String.{String}
 use lib.Dec.{ltb}
 use Rattle.reasons.specs.declared.Reason.{Reason}
-use Rattle.reasons.specs.declared.Reason.the-variants.{Done, Opcode, Inputs, Short, Version, Header, Length, File, Spare, Register, Start, Form, Overlap, Schedule, Room, Text, Count}
+use Rattle.reasons.specs.declared.Reason.the-variants.{Done, Opcode, Inputs, Short, Version, Header, Length, File, Spare, Register, Start, Form, Overlap, Schedule, Room, Text, Count, Idle}
 use Rattle.reasons.specs.declared.Check.{Check}
 use Rattle.reasons.specs.declared.Check.the-variants.{Good, Bad}
 use Rattle.reasons.specs.Reasons.{numberOf}
@@ -33,6 +33,7 @@ nameOf Schedule = "Schedule"
 nameOf Room = "Room"
 nameOf Text = "Text"
 nameOf Count = "Count"
+nameOf Idle = "Idle"
 
 -- what was expected where it is given
 abbrev pub expectedOf : Reason → String
@@ -53,6 +54,7 @@ expectedOf Schedule = "boundaries that do not fall, within the main list"
 expectedOf Room = "an output that fits its buffer, and an input that fits the program's"
 expectedOf Text = "MNEMONIC code= position= width= A= B= Y= and the switches that are on; in line 0 version= registers="
 expectedOf Count = "4,095 words or fewer"
+expectedOf Idle = "register Y 0 in a word without write"
 
 -- whether its place is a word, or the line of one
 abbrev pub placed : Reason → Bool
@@ -73,6 +75,7 @@ placed Schedule = false
 placed Room = false
 placed Text = true
 placed Count = false
+placed Idle = true
 
 -- a number below 100,000 in decimal, without zeros in front; of a larger one its last five digits. No place that is told is larger: the longest text
 -- that the programs read has fewer lines

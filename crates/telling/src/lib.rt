@@ -48,6 +48,7 @@ fn put_name(reason: Reason, text: &mut [u8], at: usize) -> usize
         Reason::Room => text::put(b"Room", text, at),
         Reason::Text => text::put(b"Text", text, at),
         Reason::Count => text::put(b"Count", text, at),
+        Reason::Idle => text::put(b"Idle", text, at),
     }
 }
 
@@ -73,6 +74,7 @@ fn is_placed(reason: Reason) -> bool
         Reason::Room => false,
         Reason::Text => true,
         Reason::Count => false,
+        Reason::Idle => true,
     }
 }
 
@@ -179,6 +181,7 @@ fn put_expected(reason: Reason, text: &mut [u8], at: usize) -> usize
             at,
         ),
         Reason::Count => text::put(b"4,095 words or fewer", text, at),
+        Reason::Idle => text::put(b"register Y 0 in a word without write", text, at),
     }
 }
 

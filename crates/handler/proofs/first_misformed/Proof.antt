@@ -13,10 +13,10 @@ use Rattle.handler.proofs.first_misformed.Statement.{statement}
 use Rattle.handler.proofs.first_misformed.Tie as tie
 
 abbrev Inv-loop : tie.InvT-loop
-Inv-loop h n s q k₀ k = Scan (formRow h n s q) (rowsBy (formRow h n s q) 0 n) n k
+Inv-loop h n s q saved k₀ k = Scan (formRow h n s q) (rowsBy (formRow h n s q) 0 n) n k
 
 abbrev μ-loop : tie.MeasureT-loop
-μ-loop h n s q k₀ k = n - k
+μ-loop h n s q saved k₀ k = n - k
 
 loop-holds : tie.Need-loop-holds Inv-loop μ-loop
 loop-holds c = let a = c .before .args in scan-start (formRow (now (a .h)) (a .n) (a .s) (a .q)) 0 (a .n) (a .n) (omega arith) (omega arith)
@@ -25,7 +25,7 @@ word-at-requires : tie.Need-word-at-requires Inv-loop μ-loop
 word-at-requires c κs = omega arith
 
 fault-requires : tie.Need-fault-requires Inv-loop μ-loop
-fault-requires c κs = (c .word-at .ensures .1, c .before .before .before .before .pre .1, c .before .before .before .before .pre .2, c .before .loop-test .taken)
+fault-requires c κs = (c .word-at .ensures .1, c .before .before .before .before .pre .1, c .before .loop-test .taken)
 
 misformed-requires : tie.Need-misformed-requires Inv-loop μ-loop
 misformed-requires c κs = search needs

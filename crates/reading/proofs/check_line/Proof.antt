@@ -14,23 +14,40 @@ returns-2 c =
 
 returns-3 : tie.Need-returns-3
 returns-3 c =
-    let r = c .before .before .before .before .before in
+    let t = c .before .before in
+    let r = t .before .before .before in
     rw (
       sym (r .before .before .read-word .ensures) ∙ r .read .given .1,
-      sym (c .before .before .before .too-large .ensures) ∙ c .before .before .if1 .left,
-      sym (c .before .names-from .ensures) ∙ c .if2 .taken,
+      sym (t .before .too-large .ensures) ∙ t .if1 .left,
+      sym (c .before .left-idle .ensures) ∙ c .if2 .taken,
     )
 
 returns-4 : tie.Need-returns-4
 returns-4 c =
-    let r = c .before .before .before .before .before in
+    let i = c .before .before in
+    let t = i .before .before in
+    let r = t .before .before .before in
     rw (
       sym (r .before .before .read-word .ensures) ∙ r .read .given .1,
-      sym (c .before .before .before .too-large .ensures) ∙ c .before .before .if1 .left,
-      sym (c .before .names-from .ensures) ∙ c .if2 .left,
+      sym (t .before .too-large .ensures) ∙ t .if1 .left,
+      sym (i .before .left-idle .ensures) ∙ i .if2 .left,
+      sym (c .before .names-from .ensures) ∙ c .if3 .taken,
+    )
+
+returns-5 : tie.Need-returns-5
+returns-5 c =
+    let i = c .before .before in
+    let t = i .before .before in
+    let r = t .before .before .before in
+    rw (
+      sym (r .before .before .read-word .ensures) ∙ r .read .given .1,
+      sym (t .before .too-large .ensures) ∙ t .if1 .left,
+      sym (i .before .left-idle .ensures) ∙ i .if2 .left,
+      sym (c .before .names-from .ensures) ∙ c .if3 .left,
     )
 
 pub check-line-spec : {M : Type 1} → statement M
 check-line-spec =
     tie.close
-    (tie.spec (search needs) (search needs) (search needs) returns (search needs) returns-2 (search needs) returns-3 returns-4)
+    (tie.spec (search needs) (search needs) (search needs) returns (search needs) returns-2 (search needs) returns-3 (search needs) returns-4
+    returns-5)

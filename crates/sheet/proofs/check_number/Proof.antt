@@ -13,28 +13,44 @@ returns-2 c =
     rw (
       eq-eqb _ _ (c .before .before .before .if1 .left),
       ← c .before .before .fields .ensures,
-      sym (c .before .lacks-page .ensures) ∙ c .if2 .taken,
+      sym (c .before .left-idle .ensures) ∙ c .if2 .taken,
     )
 
 returns-3 : tie.Need-returns-3
 returns-3 c =
+    let i = c .before .before in
     rw (
-      eq-eqb _ _ (c .before .before .before .before .before .if1 .left),
-      ← c .before .before .before .before .fields .ensures,
-      sym (c .before .before .before .lacks-page .ensures) ∙ c .before .before .if2 .left,
-      sym (c .before .names-from .ensures) ∙ c .if3 .taken,
+      eq-eqb _ _ (i .before .before .before .if1 .left),
+      ← i .before .before .fields .ensures,
+      sym (i .before .left-idle .ensures) ∙ i .if2 .left,
+      sym (c .before .lacks-page .ensures) ∙ c .if3 .taken,
     )
 
 returns-4 : tie.Need-returns-4
 returns-4 c =
+    let o = c .before .before in
+    let i = o .before .before in
     rw (
-      eq-eqb _ _ (c .before .before .before .before .before .if1 .left),
-      ← c .before .before .before .before .fields .ensures,
-      sym (c .before .before .before .lacks-page .ensures) ∙ c .before .before .if2 .left,
-      sym (c .before .names-from .ensures) ∙ c .if3 .left,
+      eq-eqb _ _ (i .before .before .before .if1 .left),
+      ← i .before .before .fields .ensures,
+      sym (i .before .left-idle .ensures) ∙ i .if2 .left,
+      sym (o .before .lacks-page .ensures) ∙ o .if3 .left,
+      sym (c .before .names-from .ensures) ∙ c .if4 .taken,
+    )
+
+returns-5 : tie.Need-returns-5
+returns-5 c =
+    let o = c .before .before in
+    let i = o .before .before in
+    rw (
+      eq-eqb _ _ (i .before .before .before .if1 .left),
+      ← i .before .before .fields .ensures,
+      sym (i .before .left-idle .ensures) ∙ i .if2 .left,
+      sym (o .before .lacks-page .ensures) ∙ o .if3 .left,
+      sym (c .before .names-from .ensures) ∙ c .if4 .left,
     )
 
 pub check-number-spec : {M : Type 1} → statement M
 check-number-spec =
     tie.close
-    (tie.spec returns (search needs) (search needs) returns-2 (search needs) returns-3 returns-4)
+    (tie.spec returns (search needs) (search needs) returns-2 (search needs) returns-3 (search needs) returns-4 returns-5)

@@ -9,7 +9,7 @@ pub put-expected-spec : {M : Type 1} → statement M
 put-expected-spec =
     tie.close
     (tie.spec
-    (search needs) (search needs) (search needs) (search needs) (search needs) (search needs) (search needs) (search needs) (search needs) (search needs) (search needs) (search needs) (search needs) (search needs) (search needs) (search needs) (search needs) (search needs) (search needs) (search needs) (search needs) (search needs) (search needs) (search needs) (search needs) (search needs) (search needs) (search needs) (search needs) (search needs) (search needs) (search needs) (search needs) (search needs) (search needs) (search needs) (search needs) (search needs) (search needs) (search needs) (search needs) (search needs) (search needs) (search needs) (search needs) (search needs) (search needs) (search needs) (search needs) (search needs) (search needs)
+    (search needs) (search needs) (search needs) (search needs) (search needs) (search needs) (search needs) (search needs) (search needs) (search needs) (search needs) (search needs) (search needs) (search needs) (search needs) (search needs) (search needs) (search needs) (search needs) (search needs) (search needs) (search needs) (search needs) (search needs) (search needs) (search needs) (search needs) (search needs) (search needs) (search needs) (search needs) (search needs) (search needs) (search needs) (search needs) (search needs) (search needs) (search needs) (search needs) (search needs) (search needs) (search needs) (search needs) (search needs) (search needs) (search needs) (search needs) (search needs) (search needs) (search needs) (search needs) (search needs) (search needs) (search needs)
     (search needs) (λ c. added-as (expected-of (c .before .before .before .before .before .enum-told .given .1)) (c .before .before .put .ensures))
     (search needs) (λ c. added-as (expected-of (c .before .before .before .before .before .enum-told2 .given .1)) (c .before .before .put2 .ensures))
     (search needs) (λ c. added-as (expected-of (c .before .before .before .before .before .enum-told3 .given .1)) (c .before .before .put3 .ensures))
@@ -26,4 +26,5 @@ put-expected-spec =
     (search needs) (λ c. added-as (expected-of (c .before .before .before .before .before .enum-told14 .given .1)) (c .before .before .put14 .ensures))
     (search needs) (λ c. added-as (expected-of (c .before .before .before .before .before .enum-told15 .given .1)) (c .before .before .put15 .ensures))
     (search needs) (λ c. added-as (expected-of (c .before .before .before .before .before .enum-told16 .given .1)) (c .before .before .put16 .ensures))
-    (search needs) (λ c. added-as (expected-of (c .before .before .before .before .before .enum-told17 .given .1)) (c .before .before .put17 .ensures)))
+    (search needs) (λ c. added-as (expected-of (c .before .before .before .before .before .enum-told17 .given .1)) (c .before .before .put17 .ensures))
+    (search needs) (λ c. added-as (expected-of (c .before .before .before .before .before .enum-told18 .given .1)) (c .before .before .put18 .ensures)))
