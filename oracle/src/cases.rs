@@ -2,16 +2,11 @@
 //! the data other programs are compared with.
 
 use crate::draw::{next, pattern, PATTERNS};
-use crate::faults::{try_each, Faults, IN_INTERRUPTS, IN_TRACES};
-use crate::interrupt::{run_interrupted_with, Interrupted, MOST_ENTRIES};
+use crate::faults::{try_each, Faults, IN_TRACES};
 use crate::pages::{has_page, number_of};
-use crate::run::Machine;
-use crate::sheet::{build, Word, DONE, HEADER, WORD};
+use crate::sheet::{build, Word, HEADER, WORD};
 use crate::trace::{trace, trace_with};
-use crate::word::reason;
-use std::collections::BTreeMap;
-use std::fmt::Write;
-use std::{fs, io, path::Path};
+use std::{fs, io, ops::Range, path::Path};
 
 /// The generator of the draw, from a seed of its own.
 pub struct Random(u64);
@@ -55,18 +50,24 @@ pub struct Registers {
 }
 
 impl Registers {
-    fn pick(&self, random: &mut Random) -> u8 {
+    pub fn pick(&self, random: &mut Random) -> u8 {
         (self.first + random.below(self.count)) as u8
+    }
+
+    /// Their numbers.
+    pub fn range(&self) -> Range<usize> {
+        self.first..self.first + self.count
     }
 }
 
-/// A word of any opcode with a page, naming only these registers.
+/// A word of any opcode with a page, naming only these registers; one in four
+/// does not write.
 pub fn random_word(random: &mut Random, registers: Registers) -> Word {
     let mut opcode = random.below(128) as u8;
     while !has_page(opcode) {
         opcode = random.below(128) as u8;
     }
-    Word {
+    let word = Word {
         opcode,
         byte_code: random.below(4) as u8,
         position: random.below(64) as u8,
@@ -79,7 +80,8 @@ pub fn random_word(random: &mut Random, registers: Registers) -> Word {
         macro_carry: random.bit(),
         macro_link: random.bit(),
         borrow: random.bit(),
-    }
+    };
+    word.without_idle()
 }
 
 pub fn random_words(random: &mut Random, count: usize, registers: Registers) -> Vec<Word> {
@@ -92,33 +94,33 @@ pub fn random_file(random: &mut Random, count: usize) -> Vec<u32> {
 
 /// A handler of the right form with a random body.
 pub fn random_handler(random: &mut Random, s: u8, q: u8, body: usize, own: Registers) -> Vec<Word> {
-    let mut fixed = |mnemonic: &str, write: u8| Word {
+    let mut fixed = |mnemonic: &str| Word {
         opcode: number_of(mnemonic),
         position: random.below(64) as u8,
         width: random.below(32) as u8,
         a: own.pick(random),
         b: own.pick(random),
-        y: own.pick(random),
-        write,
         ..Word::default()
     };
     let save_status = Word {
         y: s,
-        ..fixed("PASS-STAT", 1)
+        write: 1,
+        ..fixed("PASS-STAT")
     };
     let save_q = Word {
         y: q,
-        ..fixed("PASS-Q", 1)
+        write: 1,
+        ..fixed("PASS-Q")
     };
-    let own_q = fixed("LOADQ-A", 0);
-    let own_status = fixed("LDSTAT-A", 0);
+    let own_q = fixed("LOADQ-A");
+    let own_status = fixed("LDSTAT-A");
     let put_q = Word {
         a: q,
-        ..fixed("LOADQ-A", 0)
+        ..fixed("LOADQ-A")
     };
     let put_status = Word {
         a: s,
-        ..fixed("LDSTAT-A", 0)
+        ..fixed("LDSTAT-A")
     };
     let mut words = vec![save_status, save_q, own_q, own_status];
     words.extend(random_words(random, body, own));
@@ -135,11 +137,11 @@ pub fn random_schedule(random: &mut Random, entries: usize, count: usize) -> Vec
     schedule
 }
 
-/// Damages a sheet or trace input in one of nine ways.
+/// Damages a sheet or trace input in one of ten ways.
 pub fn damage(random: &mut Random, bytes: &mut Vec<u8>) {
     let words = (bytes.len().saturating_sub(HEADER) / WORD).max(1);
     let at = HEADER + WORD * random.below(words);
-    match random.below(9) {
+    match random.below(10) {
         0 => bytes.truncate(random.below(bytes.len() + 1)),
         1 => bytes.truncate(random.below(6)),
         2 => bytes.extend((0..1 + random.below(9)).map(|i| i as u8)),
@@ -148,11 +150,12 @@ pub fn damage(random: &mut Random, bytes: &mut Vec<u8>) {
         5 => flip(bytes, 4 + random.below(12)),
         6 => flip(bytes, 8 * at + 43 + random.below(5)),
         7 => put_opcode(bytes, at, [0x1E, 0x1F, 0x4C, 0x4D][random.below(4)]),
+        8 => leave_idle(bytes, at, 1 + random.below(63) as u8),
         _ => fill_register(bytes, 8 * at + 20 + 6 * random.below(3)),
     }
 }
 
-fn flip(bytes: &mut [u8], at: usize) {
+pub fn flip(bytes: &mut [u8], at: usize) {
     if let Some(byte) = bytes.get_mut(at / 8) {
         *byte ^= 0x80 >> (at % 8);
     }
@@ -170,6 +173,15 @@ fn fill_register(bytes: &mut [u8], at: usize) {
 fn put_opcode(bytes: &mut [u8], at: usize, opcode: u8) {
     if let Some(byte) = bytes.get_mut(at) {
         *byte = opcode << 1 | (*byte & 1);
+    }
+}
+
+/// Leaves a word idle: write is cleared, and where the Y field is 0 this number
+/// is put into it.
+fn leave_idle(bytes: &mut [u8], at: usize, y: u8) {
+    if let Some(byte) = bytes.get_mut(at + 4) {
+        let left = if *byte < 4 { y } else { *byte / 4 };
+        *byte = left * 4 + *byte % 2;
     }
 }
 
@@ -224,190 +236,4 @@ pub fn write_trace_inputs(folder: &Path, count: usize) -> io::Result<()> {
         fs::write(folder.join(format!("{i:04}.out")), trace(&input))?;
     }
     Ok(())
-}
-
-/// Everything that goes into an interrupted run.
-pub struct InterruptCase {
-    pub main: Vec<u8>,
-    pub handler: Vec<u8>,
-    pub schedule: Vec<u16>,
-    pub file: Vec<u32>,
-    pub machine: Machine,
-}
-
-/// Registers of random interrupt cases: main has 0 to 7, the handler 8 to 13
-/// and its save registers 14 (s) and 15 (q).
-pub const MAIN_REGISTERS: Registers = Registers { first: 0, count: 8 };
-pub const HANDLER_REGISTERS: Registers = Registers { first: 8, count: 6 };
-pub const SAVE_S: u8 = 14;
-pub const SAVE_Q: u8 = 15;
-
-/// An interrupt case with nothing wrong in it.
-pub fn random_interrupt(random: &mut Random) -> InterruptCase {
-    let count = random.below(20);
-    let body = random.below(8);
-    let entries = random.below(6);
-    let main = random_words(random, count, MAIN_REGISTERS);
-    let handler = random_handler(random, SAVE_S, SAVE_Q, body, HANDLER_REGISTERS);
-    InterruptCase {
-        main: build(&main, 8),
-        handler: build(&handler, 16),
-        schedule: random_schedule(random, entries, count),
-        file: random_file(random, 16),
-        machine: Machine {
-            q: random.word32(),
-            status: random.word32(),
-        },
-    }
-}
-
-/// Spoils one part of an interrupt case.
-fn spoil(random: &mut Random, case: &mut InterruptCase) {
-    match random.below(7) {
-        0 => damage(random, &mut case.main),
-        1 => damage(random, &mut case.handler),
-        2 => flip(&mut case.handler, 8 * HEADER + random.below(8 * WORD * 6)),
-        3 => case.file.truncate(random.below(16)),
-        4 => case.schedule.push(random.below(24) as u16),
-        5 => case.main = overlapping_main(random),
-        _ => case.schedule = vec![0; long_schedule(random)],
-    }
-}
-
-/// A main sheet that may name the handler's registers.
-fn overlapping_main(random: &mut Random) -> Vec<u8> {
-    let all = Registers {
-        first: 0,
-        count: 16,
-    };
-    build(&random_words(random, 5, all), 16)
-}
-
-/// About the longest length allowed, one time in eight; none otherwise.
-fn long_schedule(random: &mut Random) -> usize {
-    match random.below(8) {
-        0 => 1023 + random.below(4),
-        _ => 0,
-    }
-}
-
-/// COUNT interrupt cases; every other one is spoilt.
-fn interrupt_cases(count: usize) -> impl Iterator<Item = InterruptCase> {
-    let mut random = Random::new(2);
-    (0..count).map(move |i| {
-        let mut case = random_interrupt(&mut random);
-        if i % 2 == 1 {
-            spoil(&mut random, &mut case);
-        }
-        case
-    })
-}
-
-/// COUNT interrupt cases with their answers, a line each.
-pub fn interrupt_text(count: usize) -> String {
-    let line = |case| interrupt_line(&case, &Faults::none());
-    interrupt_cases(count).map(line).collect()
-}
-
-/// The gate's interrupt cases, the first of 20,000: twelve that are done, four
-/// more that are done without a word, four of each refusal and mark; and with
-/// about the most entries two more that are done and two that are refused.
-fn gate_interrupts() -> Vec<InterruptCase> {
-    let mut taken = BTreeMap::new();
-    let few = |case: &InterruptCase| {
-        let (ran, _) = case.run(&Faults::none());
-        let long = case.schedule.len() + 1 >= MOST_ENTRIES;
-        let empty = ran.verdict == DONE;
-        let most = match ran.verdict.reason {
-            _ if long => 2,
-            reason::DONE if !empty => 12,
-            _ => 4,
-        };
-        let kind = (long, empty, ran.verdict.reason, ran.mark);
-        let count = taken.entry(kind).or_insert(0);
-        *count += 1;
-        *count <= most
-    };
-    interrupt_cases(20_000).filter(few).collect()
-}
-
-/// Their lines.
-pub fn gate_interrupt_text() -> String {
-    let line = |case: &InterruptCase| interrupt_line(case, &Faults::none());
-    gate_interrupts().iter().map(line).collect()
-}
-
-/// The faults of the interrupted run, over the gate's cases.
-pub fn try_interrupt_faults() -> bool {
-    let cases = gate_interrupts();
-    let lines = |faults: &Faults| -> Vec<String> {
-        let line = |case: &InterruptCase| interrupt_line(case, faults);
-        cases.iter().map(line).collect()
-    };
-    let name = |i: usize| format!("line {}", i + 1);
-    try_each(IN_INTERRUPTS, "interrupted runs", lines, name)
-}
-
-impl InterruptCase {
-    /// What the run gives, and the file afterwards.
-    pub fn run(&self, faults: &Faults) -> (Interrupted, Vec<u32>) {
-        let mut file = self.file.clone();
-        let ran = run_interrupted_with(
-            &self.main,
-            &self.handler,
-            &self.schedule,
-            &mut file,
-            self.machine,
-            faults,
-        );
-        (ran, file)
-    }
-}
-
-fn interrupt_line(case: &InterruptCase, faults: &Faults) -> String {
-    let (ran, file) = case.run(faults);
-    let mut line = String::new();
-    let parts = [
-        hex(&case.main, 2),
-        hex(&case.handler, 2),
-        hex(&case.schedule, 4),
-        hex(&case.file, 8),
-    ];
-    let before = case.machine;
-    let after = ran.machine;
-    write!(
-        line,
-        "{} {:08X} {:08X} ",
-        parts.join(" "),
-        before.q,
-        before.status
-    )
-    .expect("text");
-    let verdict = ran.verdict;
-    write!(
-        line,
-        "{:02X} {:08X} {:02X} ",
-        verdict.reason, verdict.place, ran.mark
-    )
-    .expect("text");
-    writeln!(
-        line,
-        "{} {:08X} {:08X}",
-        hex(&file, 8),
-        after.q,
-        after.status
-    )
-    .expect("text");
-    line
-}
-
-/// Values in hex without spaces, or a single - for none.
-fn hex<T: std::fmt::UpperHex>(values: &[T], digits: usize) -> String {
-    if values.is_empty() {
-        return "-".to_string();
-    }
-    values
-        .iter()
-        .map(|value| format!("{value:0digits$X}"))
-        .collect()
 }

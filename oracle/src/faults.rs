@@ -105,7 +105,12 @@ IN_WORDS {
     WriteIgnored: "a run stores Y whatever write says",
     StoredToB: "a run stores Y in B's register",
     RegisterOfFiveBits: "a run takes five bits of a register field",
-    IdleRegisterUnchecked: "Y's field not checked where write is 0",
+    IdleWordPacked: "packing takes a word left idle",
+    PackedIdleBeforeOpcode: "packing: Idle before Opcode",
+    PackedIdleBeforeInputs: "packing: Idle before Inputs",
+    IdleWordTaken: "a sheet's word left idle taken",
+    IdleAfterOpcode: "a sheet's word: Idle after Opcode",
+    IdleBeforeSpare: "a sheet's word: Idle before Spare",
     StartAtEndRefused: "a start at the sheet's end refused",
     AllowanceIgnored: "the allowance of a run ignored",
     RunOfNoneKeepsStatus: "a run of no words keeps bits 13 to 15 and 23",
@@ -127,6 +132,11 @@ IN_INTERRUPTS {
     InterruptedOfNoneInBorrowMode: "an interrupted run of no words hands back borrow mode",
     InterruptedByLastWord: "an interrupted run hands back the mode of its last word",
     RefusedInterruptedWorksOutStatus: "a refused interrupted run works out the status bits",
+    IdleYOfMainNames: "Overlap: a main word's Y names register 0 where it is not written",
+    IdleYOfHandlerNames: "Overlap: a handler's Y names register 0 where it is not written",
+    WordWithoutWriteNamesNone: "Overlap: a word that does not write names no register",
+    IdleYNamesInForm: "Form: a Y names register 0 where it is not written",
+    QWhereWordOneWrites: "Form: q taken only where word 1 writes",
 }
 
 /// Faults of the lister and the reader, which the cases of listings notice.
@@ -136,6 +146,7 @@ IN_LISTINGS {
     ElevenColumns: "a mnemonic in eleven columns",
     WidthZeroListedAs32: "width 0 listed as 32",
     RegisterListedUnchecked: "a sheet listed without the check of its registers",
+    IdleWordListed: "a sheet listed with a word left idle",
     LinesFromOne: "the first line counted as 1",
     EmptyLineSkipped: "an empty line skipped",
     LastLineFeedWanted: "a last line without its line feed refused",
@@ -151,7 +162,9 @@ IN_LISTINGS {
     VersionBeforeText: "first line: Version before Text",
     InputsBeforeText: "a word line: Inputs before Text",
     RegisterBeforeInputs: "a word line: Register before Inputs",
-    IdleYNotRead: "a word line: Y not checked where write is off",
+    IdleLineTaken: "a word line left idle taken, with Y 0",
+    IdleBeforeInputs: "a word line: Idle before Inputs",
+    RegisterBeforeIdle: "a word line: Register before Idle",
     RegistersTo63: "64 registers refused",
     CountBeforeLines: "Count before the lines' reasons",
     CountFrom4095: "4,095 word lines refused",
@@ -162,14 +175,14 @@ IN_LISTINGS {
 }
 }
 
-/// The record of what was asked about has a bit for each.
-const _: () =
-    assert!(IN_WORDS.len() + IN_TRACES.len() + IN_INTERRUPTS.len() + IN_LISTINGS.len() <= 128);
+/// How many faults there are.
+const COUNT: usize = IN_WORDS.len() + IN_TRACES.len() + IN_INTERRUPTS.len() + IN_LISTINGS.len();
 
-/// At most one planted fault, and a record of which faults were asked about.
+/// At most one planted fault, and a record of which faults were asked about, with
+/// a place for each.
 pub struct Faults {
     planted: Option<Fault>,
-    asked: Cell<u128>,
+    asked: [Cell<bool>; COUNT],
 }
 
 impl Faults {
@@ -177,7 +190,7 @@ impl Faults {
     pub fn none() -> Faults {
         Faults {
             planted: None,
-            asked: Cell::new(0),
+            asked: [const { Cell::new(false) }; COUNT],
         }
     }
 
@@ -185,20 +198,20 @@ impl Faults {
     pub fn plant(fault: Fault) -> Faults {
         Faults {
             planted: Some(fault),
-            asked: Cell::new(0),
+            ..Faults::none()
         }
     }
 
     /// Is this fault planted? The question is noted.
     pub fn has(&self, fault: Fault) -> bool {
-        self.asked.set(self.asked.get() | 1 << fault as u32);
+        self.asked[fault as usize].set(true);
         self.planted == Some(fault)
     }
 
     /// Was this fault asked about since the record was made? Without a single
     /// question the model cannot have answered otherwise than it should.
     pub fn was_asked(&self, fault: Fault) -> bool {
-        self.asked.get() & 1 << fault as u32 != 0
+        self.asked[fault as usize].get()
     }
 }
 

@@ -3,7 +3,7 @@
 use crate::faults::{Fault, Faults};
 use crate::handler::check_form;
 use crate::run::{settled, step, Machine};
-use crate::sheet::{check, refuse, word_at, Header, Verdict};
+use crate::sheet::{check, refuse, word_at, Header, Verdict, Word};
 use crate::status::Mode;
 use crate::word::reason;
 
@@ -44,7 +44,8 @@ pub fn run_interrupted_with(
     mut machine: Machine,
     faults: &Faults,
 ) -> Interrupted {
-    let (main_header, handler_header) = match check_all(main, handler, schedule, file.len()) {
+    let checked = check_all(main, handler, schedule, file.len(), faults);
+    let (main_header, handler_header) = match checked {
         Ok(headers) => headers,
         Err((verdict, mark)) => return refused(verdict, mark, machine, faults),
     };
@@ -102,11 +103,12 @@ fn check_all(
     handler: &[u8],
     schedule: &[u16],
     lent: usize,
+    faults: &Faults,
 ) -> Result<(Header, Header), (Verdict, u8)> {
     let main_header = check(main, Some(lent), None).map_err(|v| (v, MAIN))?;
     let handler_header = check(handler, Some(lent), None).map_err(|v| (v, HANDLER))?;
-    check_form(handler, handler_header).map_err(|v| (v, HANDLER))?;
-    check_overlap(main, main_header, handler, handler_header).map_err(|v| (v, MAIN))?;
+    check_form(handler, handler_header, faults).map_err(|v| (v, HANDLER))?;
+    check_overlap(main, main_header, handler, handler_header, faults).map_err(|v| (v, MAIN))?;
     check_schedule(schedule, main_header.count).map_err(|v| (v, NEITHER))?;
     Ok((main_header, handler_header))
 }
@@ -117,20 +119,33 @@ fn check_overlap(
     main_header: Header,
     handler: &[u8],
     handler_header: Header,
+    faults: &Faults,
 ) -> Result<(), Verdict> {
-    let mut named = [false; 64];
+    let mut taken = [false; 64];
     for i in 0..handler_header.count {
-        for register in word_at(handler, i).registers() {
-            named[usize::from(register)] = true;
+        for register in named(&word_at(handler, i), Fault::IdleYOfHandlerNames, faults) {
+            taken[usize::from(register)] = true;
         }
     }
     for i in 0..main_header.count {
-        let shared = |&r: &u8| named[usize::from(r)];
-        if word_at(main, i).registers().iter().any(shared) {
+        let named = named(&word_at(main, i), Fault::IdleYOfMainNames, faults);
+        if named.iter().any(|&r| taken[usize::from(r)]) {
             return Err(refuse(reason::OVERLAP, i));
         }
     }
     Ok(())
+}
+
+/// The registers that a word names; with this fault the Y field whatever write
+/// says.
+fn named(word: &Word, with_y: Fault, faults: &Faults) -> Vec<u8> {
+    if faults.has(with_y) {
+        return word.registers().to_vec();
+    }
+    if word.write == 0 && faults.has(Fault::WordWithoutWriteNamesNone) {
+        return vec![];
+    }
+    word.named()
 }
 
 /// 13 Schedule, at the first entry too many, out of range or falling.

@@ -22,9 +22,13 @@ pub fn list(sheet: &[u8], out: &mut [u8], faults: &Faults) -> Result<usize, Verd
 }
 
 fn checked(sheet: &[u8], faults: &Faults) -> Result<Header, Verdict> {
-    let unchecked = faults.has(Fault::RegisterListedUnchecked);
+    let unchecked = |reason: u8| match reason {
+        reason::REGISTER => faults.has(Fault::RegisterListedUnchecked),
+        reason::IDLE => faults.has(Fault::IdleWordListed),
+        _ => false,
+    };
     match check(sheet, None, None) {
-        Err(verdict) if unchecked && verdict.reason == reason::REGISTER => header(sheet),
+        Err(verdict) if unchecked(verdict.reason) => header(sheet),
         result => result,
     }
 }

@@ -69,7 +69,8 @@ pub fn known() -> Vec<Known> {
     cases
 }
 
-/// A word with every field at work; the low five bits of i are its switches.
+/// A word with every field at work, Y's too where it does not write; the low
+/// five bits of i are its switches.
 fn varied(opcode: u8, i: usize) -> Word {
     let switch = |bit: usize| (i >> bit) as u8 % 2;
     Word {
@@ -91,8 +92,8 @@ fn varied(opcode: u8, i: usize) -> Word {
 /// Every mnemonic once, with the switches going through all that they can be.
 fn every_mnemonic() -> Vec<u8> {
     let opcodes = (0..128).filter(|&opcode| has_page(opcode));
-    let words: Vec<Word> = opcodes.zip(0..).map(|(o, i)| varied(o, i)).collect();
-    build(&words, 64)
+    let word = |(opcode, i)| varied(opcode, i).without_idle();
+    build(&opcodes.zip(0..).map(word).collect::<Vec<Word>>(), 64)
 }
 
 /// 4,095 words with every switch on.
@@ -123,11 +124,14 @@ fn good_sheets() -> Vec<Known> {
 /// Three words on eight registers: SUB with write, ADD with macro-select and
 /// borrow, OR with nothing on.
 fn small_sheet() -> Vec<u8> {
-    let word = |mnemonic: &str, i| Word {
-        a: 1,
-        b: 2,
-        y: 3,
-        ..varied(number_of(mnemonic), i)
+    let word = |mnemonic: &str, i| {
+        let word = Word {
+            a: 1,
+            b: 2,
+            y: 3,
+            ..varied(number_of(mnemonic), i)
+        };
+        word.without_idle()
     };
     build(&[word("SUB", 1), word("ADD", 18), word("OR", 0)], 8)
 }
@@ -164,10 +168,11 @@ fn refused_headers() -> Vec<Known> {
     ]
 }
 
-/// In each word 8 Spare, 1 Opcode, 9 Register, and the words in order. Word i
-/// has its six bytes from byte 4 + 6 * i on.
+/// In each word 8 Spare, 17 Idle, 1 Opcode, 9 Register, and the words in order.
+/// Word i has its six bytes from byte 4 + 6 * i on, Y and write in the fifth.
 fn refused_words() -> Vec<Known> {
-    vec![
+    let mut cases = idle_words();
+    cases.extend([
         changed("a spare bit, first word", 8, 0, |s| s[9] = 16),
         changed("spare bits first", 8, 1, |s| {
             (s[10], s[14], s[15]) = (0x4C << 1, 0xFC, 0x1F);
@@ -177,13 +182,41 @@ fn refused_words() -> Vec<Known> {
         changed("no page, 1F", 1, 1, |s| s[10] = 0x1F << 1),
         changed("no page, 4C", 1, 2, |s| s[16] = 0x4C << 1),
         changed("no page before register", 1, 1, |s| {
-            (s[10], s[14]) = (0x4D << 1, 0xFC);
+            (s[10], s[14]) = (0x4D << 1, 0xFE);
         }),
         changed("register A", 9, 0, |s| s[6] += 8),
         changed("register B", 9, 1, |s| s[13] += 32),
-        changed("register Y, which is idle", 9, 2, |s| s[20] = 8 << 2),
+        changed("register Y, which is written", 9, 2, |s| s[20] = 8 << 2 | 2),
         changed("the first word of two", 9, 1, |s| {
-            (s[14], s[21]) = (0xFC, 1);
+            (s[14], s[21]) = (0xFE, 1);
+        }),
+    ]);
+    cases
+}
+
+/// 17 Idle: after Spare, before Opcode and Register.
+fn idle_words() -> Vec<Known> {
+    vec![
+        changed("left idle, first word", 17, 0, |s| s[8] = 3 << 2),
+        changed("left idle, middle word", 17, 1, |s| s[14] = 1 << 2 | 1),
+        changed("left idle, last word", 17, 2, |s| s[20] = 7 << 2),
+        changed("idle before no page", 17, 0, |s| {
+            (s[4], s[8]) = (0x1E << 1, 3 << 2);
+        }),
+        changed("idle before register A", 17, 1, |s| {
+            (s[12], s[14]) = (s[12] + 8, 1 << 2);
+        }),
+        changed("a register Y that is not there, idle", 17, 2, |s| {
+            s[20] = 8 << 2;
+        }),
+        changed("idle before no page and register", 17, 1, |s| {
+            (s[10], s[14]) = (0x4D << 1, 0xFC);
+        }),
+        changed("spare before idle", 8, 2, |s| {
+            (s[20], s[21]) = (7 << 2, 1);
+        }),
+        changed("idle, then a spare bit", 17, 1, |s| {
+            (s[14], s[21]) = (1 << 2, 1);
         }),
     ]
 }
@@ -191,15 +224,19 @@ fn refused_words() -> Vec<Known> {
 /// 14 Room after the sheet's own. The small sheet's listing has 23 bytes for
 /// its first line, 55 for each word, and 6 and 20 for the switches.
 fn sheet_rooms() -> Vec<Known> {
-    let mut idle = small_sheet();
-    idle[20] = 8 << 2;
+    let small = |fifth: u8| {
+        let mut bytes = small_sheet();
+        bytes[20] = fifth;
+        bytes
+    };
     vec![
         sheet("exactly enough", small_sheet(), 214, DONE),
         sheet("one byte too small", small_sheet(), 213, refuse(14, 0)),
         sheet("no room", small_sheet(), 0, refuse(14, 0)),
         sheet("room for no word", build(&[], 7), 23, DONE),
         sheet("a byte short for no word", build(&[], 7), 22, refuse(14, 0)),
-        sheet("register before room", idle, 0, refuse(9, 2)),
+        sheet("register before room", small(8 << 2 | 2), 0, refuse(9, 2)),
+        sheet("idle before room", small(8 << 2), 213, refuse(17, 2)),
         sheet("short before room", vec![], 0, refuse(3, 0)),
     ]
 }

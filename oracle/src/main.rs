@@ -13,6 +13,7 @@ mod faults;
 mod field;
 mod handler;
 mod interrupt;
+mod interrupt_cases;
 mod listing;
 mod listing_cases;
 mod lists;
@@ -57,8 +58,8 @@ fn main() -> ExitCode {
         ["trace"] => trace_input(),
         ["trace-inputs", folder, count] => write_inputs(folder, count),
         ["longest"] => write(&cases::longest_input()),
-        ["interrupts", count] => print(&cases::interrupt_text(number(count))),
-        ["interrupt-cases"] => print(&cases::gate_interrupt_text()),
+        ["interrupts", count] => print(&interrupt_cases::interrupt_text(number(count))),
+        ["interrupt-cases"] => print(&interrupt_cases::gate_interrupt_text()),
         ["pairs"] => print(&pairs::pairs_text()),
         ["pairs-sheets"] => write(&pairs::pairs_sheets()),
         ["list"] => list(),
@@ -101,7 +102,7 @@ fn input() -> io::Result<Vec<u8>> {
 fn try_faults() -> bool {
     let in_words = digest::try_faults();
     let in_traces = cases::try_trace_faults();
-    let in_interrupts = cases::try_interrupt_faults();
+    let in_interrupts = interrupt_cases::try_faults();
     let in_listings = bundle::try_faults();
     in_words && in_traces && in_interrupts && in_listings
 }

@@ -3,13 +3,16 @@
 //!
 //! A file of 64 registers, all 0 as an opcode's line starts, is kept from case
 //! to case. From the case's last draw r: a = r % 64, b = (r >> 6) % 64,
-//! y = (r >> 12) % 64, write = (r >> 18) % 2.
+//! write = (r >> 18) % 2; y = (r >> 12) % 64 if write is 1 or (r >> 32) % 16 is
+//! 0, else y = 0.
 //!
 //! - A is put into register a, then B into register b.
 //! - The sheet is 10 01 80 00 (hex; one word, 64 registers) and six zero bytes,
 //!   into which the word is packed; a word that is refused leaves them. Then the
-//!   opcode number % 128 is put into the first seven bits, which changes nothing
-//!   in a word that was packed.
+//!   opcode number % 128 is put into the word's first seven bits, and y and write
+//!   into theirs: byte 8 becomes y * 4 + write * 2 + its own lowest bit. Neither
+//!   changes anything in a word that was packed: a number without a page, and a
+//!   field left idle, get into a sheet so.
 //! - It is run with the case's Q and status from word 0 with an allowance of 1,
 //!   all registers lent.
 //! - If (r >> 19) % 16 is 0 something is unusual, by kind = (r >> 23) % 8 with
@@ -26,7 +29,7 @@
 use crate::draw::{next, Case};
 use crate::faults::Faults;
 use crate::run::{run_with, Machine, Ran};
-use crate::sheet::{pack, Word, HEADER, WORD};
+use crate::sheet::{pack_with, Word, HEADER, WORD};
 use crate::word::Inputs;
 
 /// The registers of an opcode's line, and the sum so far.
@@ -51,8 +54,8 @@ impl Board {
         self.file[usize::from(word.a)] = case.inputs.a;
         self.file[usize::from(word.b)] = case.inputs.b;
         let mut call = Call::new();
-        let packed = pack(&word, &mut call.sheet[HEADER..HEADER + WORD]);
-        call.sheet[HEADER] = word.opcode % 128 * 2 + call.sheet[HEADER] % 2;
+        let packed = pack_with(&word, &mut call.sheet[HEADER..HEADER + WORD], faults);
+        call.put_unchecked(&word);
         if (case.how >> 19).is_multiple_of(16) {
             call.make_unusual((case.how >> 23) % 8, ((case.how >> 26) % 64) as u8);
         }
@@ -80,8 +83,14 @@ impl Board {
     }
 }
 
-/// The word of a case, with its registers.
+/// The word of a case, with its registers. Of the words that do not write, one in
+/// sixteen keeps its Y field.
 fn word_of(inputs: &Inputs, how: u64) -> Word {
+    let write = ((how >> 18) % 2) as u8;
+    let y = match write == 1 || (how >> 32).is_multiple_of(16) {
+        true => ((how >> 12) % 64) as u8,
+        false => 0,
+    };
     Word {
         opcode: inputs.opcode,
         byte_code: inputs.byte_code,
@@ -89,8 +98,8 @@ fn word_of(inputs: &Inputs, how: u64) -> Word {
         width: inputs.width,
         a: (how % 64) as u8,
         b: ((how >> 6) % 64) as u8,
-        y: ((how >> 12) % 64) as u8,
-        write: ((how >> 18) % 2) as u8,
+        y,
+        write,
         macro_select: inputs.macro_select,
         macro_carry: inputs.macro_carry,
         macro_link: inputs.macro_link,
@@ -118,6 +127,14 @@ impl Call {
             start: 0,
             allowance: 1,
         }
+    }
+
+    /// Puts the opcode number, Y and write into the sheet, whether the word was
+    /// packed or not.
+    fn put_unchecked(&mut self, word: &Word) {
+        let (first, fifth) = (HEADER, HEADER + 4);
+        self.sheet[first] = word.opcode % 128 * 2 + self.sheet[first] % 2;
+        self.sheet[fifth] = word.y * 4 + word.write * 2 + self.sheet[fifth] % 2;
     }
 
     fn make_unusual(&mut self, kind: u64, n: u8) {

@@ -5,7 +5,7 @@ use crate::cases::{damage, random_words, Random, Registers};
 use crate::faults::Faults;
 use crate::listing::LISTING_ROOM;
 use crate::pages::MNEMONICS;
-use crate::reader::SHEET_ROOM;
+use crate::reader::{SHEET_ROOM, SWITCHES};
 use crate::sheet::build;
 
 /// The most word lines of a drawn text, and words of a drawn sheet.
@@ -13,6 +13,9 @@ const MOST_LINES: usize = 12;
 
 /// One in this many numbers is drawn without heed to its range.
 const WILD: usize = 128;
+
+/// One in this many lines without write has a Y drawn as if it were written.
+const IDLE: usize = 64;
 
 /// COUNT cases: of three, one is a sheet and two are texts.
 pub fn random_cases(count: usize) -> Vec<Case> {
@@ -124,14 +127,19 @@ fn first_parts(random: &mut Random, manner: &Manner, registers: usize) -> Vec<St
 
 fn word_parts(random: &mut Random, manner: &Manner, registers: usize) -> Vec<String> {
     let mut parts = vec![mnemonic(random).to_string()];
+    let on = SWITCHES.map(|_| random.bit() == 1);
     let below = registers.clamp(1, 64);
+    let y_below = match on[0] || random.below(IDLE) == 0 {
+        true => below,
+        false => 1,
+    };
     for (name, count) in [
         ("code", 4),
         ("position", 64),
         ("width", 32),
         ("A", below),
         ("B", below),
-        ("Y", below),
+        ("Y", y_below),
     ] {
         let value = match random.below(WILD) {
             0 => random.below(100),
@@ -139,14 +147,8 @@ fn word_parts(random: &mut Random, manner: &Manner, registers: usize) -> Vec<Str
         };
         parts.push(format!("{name}={}", number(random, manner, value)));
     }
-    for name in [
-        "write",
-        "macro-select",
-        "macro-carry",
-        "macro-link",
-        "borrow",
-    ] {
-        if random.bit() == 1 {
+    for (name, on) in SWITCHES.into_iter().zip(on) {
+        if on {
             parts.push(name.to_string());
         }
     }

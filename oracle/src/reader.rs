@@ -28,7 +28,7 @@ const NUMBERS: [(&str, usize); 6] = [
 ];
 
 /// The switches in their order.
-const SWITCHES: [&str; 5] = [
+pub const SWITCHES: [&str; 5] = [
     "write",
     "macro-select",
     "macro-carry",
@@ -113,7 +113,7 @@ fn check_version(version: usize) -> Result<(), u8> {
     }
 }
 
-/// The word that a line says: 15 Text, 2 Inputs, 9 Register.
+/// The word that a line says: 15 Text, 2 Inputs, 17 Idle, 9 Register.
 fn word_line(line: &[u8], registers: usize, faults: &Faults) -> Result<Word, u8> {
     let parts = parts_of(line, faults);
     if parts.len() <= NUMBERS.len() {
@@ -125,7 +125,7 @@ fn word_line(line: &[u8], registers: usize, faults: &Faults) -> Result<Word, u8>
     check_numbers(&numbers, registers, on[0], faults)?;
     let [byte_code, position, width, a, b, y] = numbers.map(|number| number as u8);
     let [write, macro_select, macro_carry, macro_link, borrow] = on;
-    Ok(Word {
+    let mut word = Word {
         opcode,
         byte_code,
         position,
@@ -138,7 +138,11 @@ fn word_line(line: &[u8], registers: usize, faults: &Faults) -> Result<Word, u8>
         macro_carry,
         macro_link,
         borrow,
-    })
+    };
+    if faults.has(Fault::IdleLineTaken) {
+        word = word.without_idle();
+    }
+    Ok(word)
 }
 
 /// The parts of a line, with spaces, tabs and carriage returns about them.
@@ -220,7 +224,7 @@ fn switches_of(parts: &[&[u8]], faults: &Faults) -> Result<[u8; 5], u8> {
     Ok(on)
 }
 
-/// 2 Inputs, then 9 Register on all three fields, written or not.
+/// 2 Inputs, then 17 Idle, then 9 Register on all three fields.
 fn check_numbers(
     numbers: &[usize; 6],
     registers: usize,
@@ -228,17 +232,20 @@ fn check_numbers(
     faults: &Faults,
 ) -> Result<(), u8> {
     let too_large = |(&number, (_, most)): (&usize, (&str, usize))| number > most;
-    let idle = write == 0 && faults.has(Fault::IdleYNotRead);
-    let named = &numbers[3..if idle { 5 } else { 6 }];
-    let outside = named.iter().any(|&register| register >= registers);
+    let inputs = numbers.iter().zip(NUMBERS).any(too_large);
+    let idle = write == 0 && numbers[5] != 0 && !faults.has(Fault::IdleLineTaken);
+    let outside = numbers[3..].iter().any(|&register| register >= registers);
     if faults.has(Fault::RegisterBeforeInputs) && outside {
         return Err(reason::REGISTER);
     }
-    if numbers.iter().zip(NUMBERS).any(too_large) {
-        return Err(reason::INPUTS);
+    if faults.has(Fault::IdleBeforeInputs) && idle {
+        return Err(reason::IDLE);
     }
-    if outside {
-        return Err(reason::REGISTER);
+    match () {
+        _ if inputs => Err(reason::INPUTS),
+        _ if outside && faults.has(Fault::RegisterBeforeIdle) => Err(reason::REGISTER),
+        _ if idle => Err(reason::IDLE),
+        _ if outside => Err(reason::REGISTER),
+        _ => Ok(()),
     }
-    Ok(())
 }

@@ -1,5 +1,6 @@
 //! Words and sheets as packed bits, most significant first: packing,
-//! unpacking and checking (document 01, "Sheets and words").
+//! unpacking and checking (document 01, "Sheets and words"). A word that does
+//! not write has its Y field 0 (document 02, request 5).
 
 use crate::faults::{Fault, Faults};
 use crate::pages::has_page;
@@ -81,9 +82,31 @@ impl Word {
         }
     }
 
-    /// The three register fields; all count as naming a register, used or not.
+    /// The three register fields as they stand, all of which 9 Register looks at.
     pub fn registers(&self) -> [u8; 3] {
         [self.a, self.b, self.y]
+    }
+
+    /// The registers that the word names in the form and for 12 Overlap: A and B,
+    /// used or not, and then Y where the word writes.
+    pub fn named(&self) -> Vec<u8> {
+        match self.write {
+            1 => vec![self.a, self.b, self.y],
+            _ => vec![self.a, self.b],
+        }
+    }
+
+    /// Is the Y field left idle: not 0, and the word does not write?
+    pub fn is_idle(&self) -> bool {
+        self.write == 0 && self.y != 0
+    }
+
+    /// The word with its Y field 0 where it does not write.
+    pub fn without_idle(self) -> Word {
+        match self.write {
+            0 => Word { y: 0, ..self },
+            _ => self,
+        }
     }
 }
 
@@ -107,15 +130,30 @@ fn put(bytes: &mut [u8], at: usize, count: usize, value: usize) {
     }
 }
 
-/// Packs a word: 1 Opcode, 2 Inputs, 14 Room; bytes past the sixth stay, and
-/// a refusal changes none.
+/// Packs a word: 1 Opcode, 2 Inputs, 17 Idle, 14 Room; bytes past the sixth
+/// stay, and a refusal changes none.
 pub fn pack(word: &Word, out: &mut [u8]) -> Verdict {
+    pack_with(word, out, &Faults::none())
+}
+
+/// The same with a fault that may be planted.
+pub fn pack_with(word: &Word, out: &mut [u8], faults: &Faults) -> Verdict {
+    let idle = word.is_idle() && !faults.has(Fault::IdleWordPacked);
+    if idle && faults.has(Fault::PackedIdleBeforeOpcode) {
+        return refuse(reason::IDLE, 0);
+    }
     if !has_page(word.opcode) {
         return refuse(reason::OPCODE, 0);
+    }
+    if idle && faults.has(Fault::PackedIdleBeforeInputs) {
+        return refuse(reason::IDLE, 0);
     }
     let too_large = |(&value, &bits): (&u8, &usize)| usize::from(value) >> bits != 0;
     if word.fields().iter().zip(&FIELD_BITS).any(too_large) {
         return refuse(reason::INPUTS, 0);
+    }
+    if idle {
+        return refuse(reason::IDLE, 0);
     }
     if out.len() < WORD {
         return refuse(reason::ROOM, 0);
@@ -133,20 +171,37 @@ fn put_fields(word: &Word, out: &mut [u8]) {
     put(out, at, 5, 0);
 }
 
-/// Unpacks the first six bytes: 14 Room, 8 Spare, 1 Opcode; a refusal gives
-/// all fields 0.
+/// Unpacks the first six bytes: 14 Room, 8 Spare, 17 Idle, 1 Opcode; a refusal
+/// gives all fields 0.
 pub fn unpack(bytes: &[u8]) -> (Verdict, Word) {
+    unpack_with(bytes, &Faults::none())
+}
+
+/// The same with a fault that may be planted.
+fn unpack_with(bytes: &[u8], faults: &Faults) -> (Verdict, Word) {
     if bytes.len() < WORD {
         return (refuse(reason::ROOM, 0), Word::default());
     }
-    if number(bytes, 43, 5) != 0 {
-        return (refuse(reason::SPARE, 0), Word::default());
-    }
     let word = fields_of(bytes);
-    if !has_page(word.opcode) {
-        return (refuse(reason::OPCODE, 0), Word::default());
+    match word_reason(&word, number(bytes, 43, 5) != 0, faults) {
+        reason::DONE => (DONE, word),
+        reason => (refuse(reason, 0), Word::default()),
     }
-    (DONE, word)
+}
+
+/// 8 Spare, 17 Idle, 1 Opcode.
+fn word_reason(word: &Word, spare: bool, faults: &Faults) -> u8 {
+    let no_page = !has_page(word.opcode);
+    let idle = word.is_idle() && !faults.has(Fault::IdleWordTaken);
+    if spare && !(idle && faults.has(Fault::IdleBeforeSpare)) {
+        reason::SPARE
+    } else if idle && !(no_page && faults.has(Fault::IdleAfterOpcode)) {
+        reason::IDLE
+    } else if no_page {
+        reason::OPCODE
+    } else {
+        reason::DONE
+    }
 }
 
 fn fields_of(bytes: &[u8]) -> Word {
@@ -189,18 +244,16 @@ pub fn word_at(sheet: &[u8], i: usize) -> Word {
     fields_of(&sheet[HEADER + WORD * i..])
 }
 
-/// Checks the words in order, in each 8 Spare, 1 Opcode, 9 Register.
+/// Checks the words in order, in each 8 Spare, 17 Idle, 1 Opcode, 9 Register.
 pub fn check_words(sheet: &[u8], header: Header, faults: &Faults) -> Result<(), Verdict> {
     for i in 0..header.count {
         let bytes = &sheet[HEADER + WORD * i..];
-        let (verdict, word) = unpack(bytes);
+        let (verdict, word) = unpack_with(bytes, faults);
         if verdict != DONE {
             return Err(refuse(verdict.reason, i));
         }
         let outside = |&r: &u8| usize::from(r) >= header.registers;
-        let idle = faults.has(Fault::IdleRegisterUnchecked) && word.write == 0;
-        let checked = &word.registers()[..if idle { 2 } else { 3 }];
-        if checked.iter().any(outside) {
+        if word.registers().iter().any(outside) {
             return Err(refuse(reason::REGISTER, i));
         }
     }

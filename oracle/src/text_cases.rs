@@ -32,16 +32,16 @@ pub fn known() -> Vec<Known> {
 pub const PLAIN: &str = "\
 version=1 registers=20
 SUBC        code=1 position=02 width=03 A=04 B=05 Y=06 write macro-select
-DN1-LF-AQ   code=0 position=63 width=31 A=19 B=00 Y=10
-OR          code=3 position=10 width=00 A=00 B=19 Y=09 macro-carry macro-link borrow
+DN1-LF-AQ   code=0 position=63 width=31 A=19 B=00 Y=10 write
+OR          code=3 position=10 width=00 A=00 B=19 Y=00 macro-carry macro-link borrow
 ";
 
 /// The same with one digit where one will do, and without its last line feed.
 const SHORTEST: &str = "\
 version=1 registers=20
 SUBC code=1 position=2 width=3 A=4 B=5 Y=6 write macro-select
-DN1-LF-AQ code=0 position=63 width=31 A=19 B=0 Y=10
-OR code=3 position=10 width=0 A=0 B=19 Y=9 macro-carry macro-link borrow";
+DN1-LF-AQ code=0 position=63 width=31 A=19 B=0 Y=10 write
+OR code=3 position=10 width=0 A=0 B=19 Y=0 macro-carry macro-link borrow";
 
 /// Texts that say what PLAIN says.
 pub fn same_texts() -> Vec<(&'static str, String)> {
@@ -196,9 +196,14 @@ const WHOLE_TEXTS: &[(u8, usize, &[u8])] = &[
         b"version=1 registers=9\nor code=4 position=0 width=0 a=0 b=0 y=0",
     ),
     (
-        9,
+        17,
         1,
         b"version=1 registers=9\nor code=0 position=0 width=0 a=0 b=0 y=9",
+    ),
+    (
+        9,
+        1,
+        b"version=1 registers=9\nor code=0 position=0 width=0 a=0 b=0 y=9 write",
     ),
 ];
 
@@ -216,9 +221,10 @@ const FIRST_AT_FAULT: [(u8, &str); 3] = [
     (4, "version=2 registers=20"),
     (5, "version=1 registers=0"),
 ];
-const WORD_AT_FAULT: [(u8, &str); 3] = [
+const WORD_AT_FAULT: [(u8, &str); 4] = [
     (15, "or"),
     (2, "or code=4 position=0 width=0 a=0 b=0 y=0"),
+    (17, "or code=0 position=0 width=0 a=0 b=0 y=1"),
     (9, "or code=0 position=0 width=0 a=20 b=0 y=0"),
 ];
 
@@ -255,7 +261,7 @@ fn with_line(line: &[u8], at: usize, reason: u8) -> Known {
 }
 
 /// A line with all its parts.
-pub const PARTS: [&str; 12] = [
+const PARTS: [&str; 12] = [
     "SUBC",
     "code=1",
     "position=02",
@@ -272,6 +278,17 @@ pub const PARTS: [&str; 12] = [
 
 /// How many of them are never left out.
 const NEEDED: usize = 7;
+
+/// A line with no switch on.
+pub const BARE: [&str; NEEDED] = [
+    "SUBC",
+    "code=1",
+    "position=02",
+    "width=03",
+    "A=04",
+    "B=05",
+    "Y=00",
+];
 
 /// Every line that is outside the listing by one part of a good one. Each is
 /// put in the first, the middle or the last place, in turn.
@@ -321,7 +338,7 @@ fn spoilt(i: usize) -> Vec<String> {
     lines
 }
 
-/// A part put for part i of the seven that are needed, or after them, with the
+/// A part put for part i of a line with no switch on, or after them, with the
 /// line's reason. There are 20 registers. These too go through the three places
 /// in turn.
 const OTHER_PARTS: &[(u8, usize, &[u8])] = &[
@@ -361,7 +378,7 @@ const OTHER_PARTS: &[(u8, usize, &[u8])] = &[
     (0, 3, b"width=31"),
     (0, 4, b"a=19"),
     (0, 5, b"b=19"),
-    (0, 6, b"y=19"),
+    (0, 6, b"y=19 write"),
     // Names.
     (15, 1, b"cod=1"),
     (15, 1, b"code:1"),
@@ -453,19 +470,35 @@ const OTHER_PARTS: &[(u8, usize, &[u8])] = &[
     (2, 5, b"B=99"),
     (2, 6, b"Y=64"),
     (2, 6, b"Y=99"),
-    // Registers that are not below the count.
+    (2, 6, b"Y=64 write"),
+    (2, 6, b"Y=99 write borrow"),
+    // Y is 0 where write is off, and any register where it is on.
+    (0, 6, b"Y=0"),
+    (0, 6, b"y=00 macro-select macro-carry macro-link borrow"),
+    (0, 6, b"Y=0 write"),
+    (0, 6, b"Y=01 WRITE borrow"),
+    (17, 6, b"Y=1"),
+    (17, 6, b"Y=01"),
+    (17, 6, b"Y=06"),
+    (17, 6, b"y=10"),
+    (17, 6, b"Y=19 borrow"),
+    (17, 6, b"Y=19 macro-select macro-carry macro-link borrow"),
+    // Registers that are not below the count; but one that is left idle.
     (9, 4, b"A=20"),
     (9, 4, b"A=63"),
     (9, 5, b"B=20"),
     (9, 5, b"B=63"),
-    (9, 6, b"Y=20"),
-    (9, 6, b"Y=63"),
     (9, 6, b"Y=20 write"),
+    (9, 6, b"Y=63 write"),
+    (9, 6, b"Y=20 write macro-carry"),
+    (17, 6, b"Y=20"),
+    (17, 6, b"Y=63"),
+    (17, 6, b"Y=20 macro-carry"),
 ];
 
 fn other_parts() -> Vec<Known> {
     let line = |at: usize, part: &[u8]| {
-        let mut parts: Vec<&[u8]> = PARTS[..NEEDED].iter().map(|part| part.as_bytes()).collect();
+        let mut parts = BARE.map(str::as_bytes).to_vec();
         parts.splice(at..NEEDED.min(at + 1), [part]);
         parts.join(&b' ')
     };
@@ -476,7 +509,7 @@ fn other_parts() -> Vec<Known> {
 }
 
 /// Lines that are empty, and lines with more than one fault: 15 Text, then 2
-/// Inputs, then 9 Register. Each is put in all three places.
+/// Inputs, then 17 Idle, then 9 Register. Each is put in all three places.
 const OTHER_LINES: &[(u8, &[u8])] = &[
     (15, b""),
     (15, b" "),
@@ -500,7 +533,17 @@ const OTHER_LINES: &[(u8, &[u8])] = &[
     (2, b"SUBC code=1 position=02 width=32 A=20 B=20 Y=20 write"),
     (2, b"SUBC code=1 position=02 width=03 A=20 B=05 Y=64"),
     (2, b"SUBC code=1 position=02 width=03 A=64 B=20 Y=06"),
-    (9, b"SUBC code=1 position=02 width=03 A=20 B=63 Y=20 borrow"),
+    (2, b"SUBC code=4 position=02 width=03 A=04 B=05 Y=06"),
+    (17, b"SUBC code=1 position=02 width=03 A=20 B=05 Y=06"),
+    (
+        17,
+        b"SUBC code=1 position=02 width=03 A=20 B=63 Y=20 borrow",
+    ),
+    (9, b"SUBC code=1 position=02 width=03 A=20 B=05 Y=00 borrow"),
+    (
+        9,
+        b"SUBC code=1 position=02 width=03 A=20 B=63 Y=20 write borrow",
+    ),
 ];
 
 fn other_lines() -> Vec<Known> {
@@ -514,7 +557,8 @@ fn other_lines() -> Vec<Known> {
 fn text_rooms() -> Vec<Known> {
     let plain = || PLAIN.as_bytes().to_vec();
     let first = || b"version=1 registers=20".to_vec();
-    let bad = PLAIN.replace("Y=09", "Y=20").into_bytes();
+    let bad = PLAIN.replace("Y=10", "Y=20").into_bytes();
+    let idle = PLAIN.replace("Y=00", "Y=01").into_bytes();
     let worse = PLAIN.replace("OR ", "ROR").into_bytes();
     vec![
         text("exactly enough", plain(), 22, DONE),
@@ -522,7 +566,8 @@ fn text_rooms() -> Vec<Known> {
         text("no room", plain(), 0, refuse(14, 0)),
         text("room for no word", first(), 4, DONE),
         text("a byte short for no word", first(), 3, refuse(14, 0)),
-        text("register before room", bad, 0, refuse(9, 3)),
+        text("register before room", bad, 0, refuse(9, 2)),
+        text("idle before room", idle, 21, refuse(17, 3)),
         text("text before room", worse, 21, refuse(15, 3)),
         text("empty before room", vec![], 0, refuse(15, 0)),
     ]

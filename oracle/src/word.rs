@@ -7,8 +7,8 @@ use crate::pages::{has_page, perform};
 use crate::pins;
 use crate::status::{Mode, Status};
 
-/// The numbers of document 01's table of reasons, and those that document 02's
-/// second request adds.
+/// The numbers of document 01's table of reasons, and those that document 02
+/// adds: its second request 15 and 16, its fifth 17.
 pub mod reason {
     pub const DONE: u8 = 0;
     pub const OPCODE: u8 = 1;
@@ -27,6 +27,7 @@ pub mod reason {
     pub const ROOM: u8 = 14;
     pub const TEXT: u8 = 15;
     pub const COUNT: u8 = 16;
+    pub const IDLE: u8 = 17;
 }
 
 /// What goes into a single word.

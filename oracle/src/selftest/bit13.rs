@@ -7,6 +7,7 @@ use super::Group;
 use crate::cases::*;
 use crate::faults::Faults;
 use crate::interrupt::run_interrupted;
+use crate::interrupt_cases::*;
 use crate::lists::{bits_of, signed, with_low};
 use crate::pages::number_of;
 use crate::run::{run, step, Machine};

@@ -27,11 +27,11 @@ pub fn patterns(group: &mut Group) {
 /// The runs of a line are refused for every reason that a run has, and are
 /// done with a word and without; where the number has no page none is done.
 pub fn reasons(group: &mut Group) {
-    let done = [(reason::DONE, 0), (reason::DONE, 1)];
     let refused = |last: u8| (reason::SHORT..=last).map(|reason| (reason, 0));
-    let with_page: BTreeSet<(u8, usize)> = done.into_iter().chain(refused(reason::START)).collect();
+    let mut with_page: BTreeSet<(u8, usize)> = refused(reason::START).collect();
+    with_page.extend([(reason::DONE, 0), (reason::DONE, 1), (reason::IDLE, 0)]);
     let mut without: BTreeSet<(u8, usize)> = refused(reason::SPARE).collect();
-    without.insert((reason::OPCODE, 0));
+    without.extend([(reason::OPCODE, 0), (reason::IDLE, 0)]);
     group.same("ADD", ends(number_of("ADD")), with_page);
     group.same("number 1E", ends(0x1E), without);
 }

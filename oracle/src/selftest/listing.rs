@@ -11,7 +11,7 @@ use crate::pages::MNEMONICS;
 use crate::random_texts::{good_sheet, grown_text, random_cases, random_text};
 use crate::reader::{read, MOST_WORDS, SHEET_ROOM};
 use crate::sheet::{check, refuse, Verdict, DONE, HEADER, WORD};
-use crate::text_cases::{same_texts, PARTS, PLAIN};
+use crate::text_cases::{same_texts, BARE, PLAIN};
 use std::collections::BTreeSet;
 
 /// The sheet of a text, in a buffer that holds any.
@@ -58,8 +58,8 @@ SUB         code=3 position=00 width=00 A=00 B=01 Y=02 write borrow
 const PLAIN_SHEET: [u8; 22] = [
     0x10, 0x03, 0x28, 0x00, //
     0x8A, 0x84, 0x31, 0x05, 0x1B, 0x00, //
-    0x54, 0x7F, 0xF4, 0xC0, 0x28, 0x00, //
-    0x7D, 0x94, 0x00, 0x13, 0x24, 0xE0,
+    0x54, 0x7F, 0xF4, 0xC0, 0x2A, 0x00, //
+    0x7D, 0x94, 0x00, 0x13, 0x00, 0xE0,
 ];
 
 /// Sheets and their texts by hand; what an editor may write instead; sizes.
@@ -116,10 +116,11 @@ pub fn gate(group: &mut Group) {
     );
 }
 
-/// A text of one word line on 20 registers, with part i of it replaced.
+/// A text of one word line on 20 registers, which does not write, with part i of
+/// it replaced.
 fn with_part(i: usize, part: &[u8]) -> Vec<u8> {
     let mut text = b"version=1 registers=20\n".to_vec();
-    for (j, needed) in PARTS[..7].iter().enumerate() {
+    for (j, needed) in BARE.iter().enumerate() {
         text.extend(if i == j { part } else { needed.as_bytes() });
         text.push(b' ');
     }
@@ -151,23 +152,36 @@ pub fn mnemonics(group: &mut Group) {
     }
 }
 
+/// Where a number stands: its part of the line, its name, the largest that the
+/// field holds, whether it is a register's, and what follows it.
+const PLACES: [(usize, &str, usize, bool, &str); 7] = [
+    (1, "code", 3, false, ""),
+    (2, "position", 63, false, ""),
+    (3, "width", 31, false, ""),
+    (4, "A", 63, true, ""),
+    (5, "B", 63, true, ""),
+    (6, "Y", 63, true, ""),
+    (6, "Y", 63, true, " write"),
+];
+
 /// Every number of up to three digits, with and without leading zeros, in
-/// every place.
+/// every place; Y without write and with it.
 pub fn numbers(group: &mut Group) {
     for value in 0..1000 {
         for digits in 1..4 {
             let number = format!("{value:0digits$}");
-            for (i, most) in [3, 63, 31, 63, 63, 63].into_iter().enumerate() {
-                let name = PARTS[1 + i].split_once('=').expect("a number").0;
+            for (i, name, most, register, after) in PLACES {
                 let reason = match () {
                     _ if number.len() > 2 => 15,
                     _ if value > most => 2,
-                    _ if i >= 3 && value >= 20 => 9,
+                    _ if i == 6 && after.is_empty() && value != 0 => 17,
+                    _ if register && value >= 20 => 9,
                     _ => 0,
                 };
-                let text = with_part(1 + i, format!("{name}={number}").as_bytes());
+                let part = format!("{name}={number}{after}");
+                let got = verdict_of(&with_part(i, part.as_bytes()));
                 let want = refuse(reason, usize::from(reason != 0));
-                group.same(&format!("{name}={number}"), verdict_of(&text), want);
+                group.same(&part, got, want);
             }
             check_first_line(group, value, &number);
         }
@@ -290,7 +304,7 @@ pub fn reasons(group: &mut Group) {
         let verdict = case.result(&Faults::none()).1.err().unwrap_or(DONE);
         ends[usize::from(case.kind == Kind::Text)].insert(verdict.reason);
     }
-    let listed = BTreeSet::from([0, 1, 3, 4, 5, 6, 8, 9, 14]);
-    let read = BTreeSet::from([0, 2, 4, 5, 9, 14, 15]);
+    let listed = BTreeSet::from([0, 1, 3, 4, 5, 6, 8, 9, 14, 17]);
+    let read = BTreeSet::from([0, 2, 4, 5, 9, 14, 15, 17]);
     group.same("listing, reading", ends, [listed, read]);
 }

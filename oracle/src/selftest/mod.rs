@@ -6,6 +6,7 @@ mod bit13;
 mod decimal;
 mod draws;
 mod examples;
+mod forms;
 mod listing;
 mod manual;
 mod pins;
@@ -43,7 +44,7 @@ impl Group {
 type Test = (&'static str, fn(&mut Group));
 
 /// Every group, in order.
-const GROUPS: [Test; 55] = [
+const GROUPS: [Test; 60] = [
     ("document 01, examples a to m", examples::lettered),
     ("document 01, the trace example", examples::trace_example),
     ("manual, field pages", manual::field_pages),
@@ -93,12 +94,17 @@ const GROUPS: [Test; 55] = [
     ("decimal, counting and negation", decimal::counting),
     ("decimal, several words long", decimal::long),
     ("packing and unpacking", sheets::round_trips),
-    (
-        "refusals of sheets, handlers, schedules, traces",
-        sheets::refusals,
-    ),
+    ("refusals of sheets and traces", sheets::refusals),
+    ("the handler's form, every clause", forms::clauses),
+    ("the handler's form, save registers", forms::saves),
+    ("registers that main and handler share", forms::overlaps),
+    ("refusals of schedules", forms::schedules),
     ("a run in parts equals a run at once", runs::in_parts),
     ("interrupts leave main undisturbed", runs::interrupts),
+    (
+        "interrupted runs end in every way",
+        runs::interrupted_reasons,
+    ),
     ("bit 13 by hand", bit13::by_hand),
     ("bit 13 by C, Z and the switch", bit13::table),
     (

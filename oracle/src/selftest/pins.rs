@@ -6,6 +6,7 @@ use super::Group;
 use crate::cases::*;
 use crate::draw::Draw;
 use crate::faults::{Fault, Faults};
+use crate::interrupt_cases::random_interrupt;
 use crate::on_registers::Board;
 use crate::pages::{has_page, number_of, MNEMONICS};
 use crate::run::{run_with, Machine};
@@ -294,13 +295,14 @@ pub fn extracted(group: &mut Group) {
 /// flags and every way to be refused.
 pub fn refused(group: &mut Group) {
     let mut random = Random::new(62);
+    let register = Registers { first: 0, count: 1 };
     for pins in 0..32 {
         for opcode in [0x1E, 0x1F, 0x4C, 0x4D, 0x80, 0xC2, 0xFF] {
             let inputs = drawn_inputs(&mut random, opcode);
             check_refused(group, inputs, pins, reason::OPCODE);
         }
         for way in 0..7 {
-            let opcode = random_word(&mut random, MAIN_REGISTERS).opcode;
+            let opcode = random_word(&mut random, register).opcode;
             let mut inputs = drawn_inputs(&mut random, opcode);
             match way {
                 0 => inputs.byte_code += 4,
