@@ -230,7 +230,7 @@ static uint32_t read_first(struct span line, uint8_t *registers)
                                                                 : MODEL_DONE;
 }
 
-/* 15 Text, 2 Inputs, 9 Register of a word's line, or its six bytes. */
+/* 15 Text, 2 Inputs, 17 Idle, 9 Register of a word's line, or its six bytes. */
 static uint32_t read_line(struct span line, uint8_t registers,
                           uint8_t bytes[MODEL_WORD_BYTES])
 {

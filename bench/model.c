@@ -41,6 +41,8 @@ enum {
 
 #define WORD_MASK 0xFFFFFFFFFFFFull
 #define SPARE_MASK 0x1Full
+#define Y_MASK (63ull << AT_Y)
+#define WRITE_MASK (1ull << AT_WRITE)
 
 INLINE uint32_t field(uint64_t word, int at, int bits)
 {
@@ -53,6 +55,14 @@ INLINE uint32_t b_of(uint64_t word) { return field(word, AT_B, 6); }
 INLINE uint32_t y_of(uint64_t word) { return field(word, AT_Y, 6); }
 INLINE uint32_t bit_of(uint64_t word, int at) { return field(word, at, 1); }
 INLINE uint32_t borrow_of(uint64_t word) { return bit_of(word, AT_BORROW); }
+
+/* Bits of a word that are set and must be 0: spare ones, and Y's where it does
+ * not write. The write bit less 1 is all ones where it is 0; where it is 1, the
+ * ones below it, with the spare bits among them and Y's not. */
+INLINE uint64_t wrong_bits(uint64_t word)
+{
+    return word & (SPARE_MASK | Y_MASK) & ((word & WRITE_MASK) - 1);
+}
 
 /* How far the selected bytes are from the top: byte code 00, 01, 10, 11 (four
  * bytes, one, two, three) gives 0, 24, 16, 8. */
@@ -1168,6 +1178,8 @@ struct model_verdict model_pack(const struct model_word *word, uint8_t *bytes,
     uint64_t bits = packed(word);
     if (reason != MODEL_DONE)
         return verdict(reason, 0);
+    if (wrong_bits(bits))
+        return verdict(MODEL_IDLE, 0);
     if (room < MODEL_WORD_BYTES)
         return verdict(MODEL_ROOM, 0);
     for (int i = 0; i < MODEL_WORD_BYTES; i++)
@@ -1186,6 +1198,8 @@ struct model_verdict model_unpack(const uint8_t *bytes, size_t length,
         bits = bits << 8 | bytes[i];
     if (bits & SPARE_MASK)
         return verdict(MODEL_SPARE, 0);
+    if (wrong_bits(bits))
+        return verdict(MODEL_IDLE, 0);
     if (!has_page(opcode_of(bits)))
         return verdict(MODEL_OPCODE, 0);
     word->opcode = (uint8_t)opcode_of(bits);
@@ -1237,11 +1251,13 @@ static uint32_t read_header(const uint8_t *bytes, size_t length,
     return MODEL_DONE;
 }
 
-/* 8 Spare, 1 Opcode, 9 Register, known to be one of them. */
+/* 8 Spare, 17 Idle, 1 Opcode, 9 Register, known to be one of them. */
 static uint32_t reason_of_word(uint64_t word)
 {
     if (word & SPARE_MASK)
         return MODEL_SPARE;
+    if (wrong_bits(word))
+        return MODEL_IDLE;
     return has_page(opcode_of(word)) ? MODEL_REGISTER : MODEL_OPCODE;
 }
 
@@ -1250,7 +1266,7 @@ static struct model_verdict check_words(const struct sheet *sheet)
     const uint32_t registers = sheet->registers;
     for (uint64_t i = 0; i < sheet->count; i++) {
         uint64_t word = nth_word(sheet, i);
-        if ((word & SPARE_MASK) != 0 || !has_page(opcode_of(word)) ||
+        if (wrong_bits(word) != 0 || !has_page(opcode_of(word)) ||
             a_of(word) >= registers || b_of(word) >= registers ||
             y_of(word) >= registers)
             return verdict(reason_of_word(word), i);
@@ -1303,7 +1319,7 @@ struct model_verdict model_run(const uint8_t *bytes, size_t length,
 /* A fixed word: opcode and write bit given, byte code 00, all four switches 0;
  * position, width and registers free. */
 #define FIXED_MASK                                                             \
-    ((127ull << AT_OPCODE) | (3ull << AT_I7) | (1ull << AT_WRITE) |            \
+    ((127ull << AT_OPCODE) | (3ull << AT_I7) | WRITE_MASK |                    \
      (1ull << AT_MACRO_SELECT) | (1ull << AT_MACRO_CARRY) |                    \
      (1ull << AT_MACRO_LINK) | (1ull << AT_BORROW))
 
@@ -1315,28 +1331,29 @@ static int is_fixed(uint64_t word, uint32_t opcode, uint32_t write)
 
 static uint64_t named(uint32_t reg) { return 1ull << reg; }
 
-/* The set of registers that a word names, used or not. */
+/* The set of registers that a word names: A and B, used or not, and Y where it
+ * writes. */
 static uint64_t all_named(uint64_t word)
 {
-    return named(a_of(word)) | named(b_of(word)) | named(y_of(word));
+    return named(a_of(word)) | named(b_of(word)) |
+           (uint64_t)bit_of(word, AT_WRITE) << y_of(word);
 }
 
-/* Does word i of a handler keep to the form, with s and q its save registers? */
+/* Does word i of a handler keep to the form, with s and q its save registers?
+ * Of the last two words, which do not write, Y names none. */
 static int keeps_form(uint64_t word, uint64_t i, uint64_t count, uint32_t s,
                       uint32_t q)
 {
     const uint64_t saves = named(s) | named(q);
-    const uint64_t ab = named(a_of(word)) | named(b_of(word));
-    const uint64_t by = named(b_of(word)) | named(y_of(word));
+    const uint64_t b = named(b_of(word)), ab = named(a_of(word)) | b;
     if (i == 0)
         return is_fixed(word, OP_PASS_STAT, 1) && !(ab & saves);
     if (i == 1)
         return is_fixed(word, OP_PASS_Q, 1) && !(ab & saves) && s != q;
     if (i + 2 == count)
-        return is_fixed(word, OP_LOADQ_A, 0) && a_of(word) == q && !(by & saves);
+        return is_fixed(word, OP_LOADQ_A, 0) && a_of(word) == q && !(b & saves);
     if (i + 1 == count)
-        return is_fixed(word, OP_LDSTAT_A, 0) && a_of(word) == s &&
-               !(by & saves);
+        return is_fixed(word, OP_LDSTAT_A, 0) && a_of(word) == s && !(b & saves);
     if (i == 2 && !is_fixed(word, OP_LOADQ_A, 0))
         return 0;
     if (i == 3 && !is_fixed(word, OP_LDSTAT_A, 0))
@@ -1344,7 +1361,8 @@ static int keeps_form(uint64_t word, uint64_t i, uint64_t count, uint32_t s,
     return !(all_named(word) & saves);
 }
 
-/* 11 Form: the first word that breaks any clause. */
+/* 11 Form: the first word that breaks any clause. s and q are the Y fields of
+ * words 0 and 1 as they stand, written or not. */
 static struct model_verdict check_form(const struct sheet *handler)
 {
     uint32_t s, q;

@@ -14,6 +14,9 @@
  * The pins C, Z, N, V and L show those flags of the status after a word (document
  * 02, request 4): five bits, C in bit 4.
  *
+ * A word that does not write has Y 0, which names no register (document 02,
+ * request 5). What a word names is A and B, used or not, and Y where it writes.
+ *
  * Numbers outside their range are refused, not trusted. A refusal runs nothing
  * and changes nothing that was lent. Every function is re-entrant: there is no
  * state but what the caller hands in.
@@ -24,7 +27,7 @@
 #include <stddef.h>
 #include <stdint.h>
 
-/* Document 01, "Reasons given"; 15 and 16 are document 02's. */
+/* Document 01, "Reasons given"; 15 to 17 are document 02's. */
 enum model_reason {
     MODEL_DONE = 0,
     MODEL_OPCODE = 1,
@@ -42,7 +45,8 @@ enum model_reason {
     MODEL_SCHEDULE = 13,
     MODEL_ROOM = 14,
     MODEL_TEXT = 15,
-    MODEL_COUNT = 16
+    MODEL_COUNT = 16,
+    MODEL_IDLE = 17
 };
 
 /* Which sheet of an interrupted run a refusal's fault is in. */
@@ -78,7 +82,7 @@ struct model_word {
     uint8_t byte_code; /* 2, I8 I7 */
     uint8_t position;  /* 6 */
     uint8_t width;     /* 5 */
-    uint8_t a, b, y;   /* 6 each: registers */
+    uint8_t a, b, y;   /* 6 each: registers; y is 0 where write is 0 */
     uint8_t write;     /* 1 each from here */
     uint8_t macro_select;
     uint8_t macro_carry;
@@ -119,29 +123,32 @@ struct model_answer model_single(const struct model_inputs *inputs);
 /* The pins with this status in the register: after model_step too. */
 uint32_t model_pins(uint32_t status);
 
-/* Packs into the first six of `room` bytes. Refuses 1, 2, 14. */
+/* Packs into the first six of `room` bytes. Refuses 1, 2, 17, 14. */
 struct model_verdict model_pack(const struct model_word *word,
                                 uint8_t *bytes, size_t room);
 
-/* Unpacks the first six of `length` bytes. Refuses 14, 8, 1, all fields 0. */
+/* Unpacks the first six of `length` bytes. Refuses 14, 8, 17, 1; all fields are
+ * then 0. */
 struct model_verdict model_unpack(const uint8_t *bytes, size_t length,
                                   struct model_word *word);
 
-/* Checks a sheet with no file lent and no start: 3 to 6, then its words. */
+/* Checks a sheet with no file lent and no start: 3 to 6, then its words, in each
+ * 8, 17, 1, 9. */
 struct model_verdict model_check(const uint8_t *sheet, size_t length);
 
 /* Checks a sheet handed in as a handler: as above, then 11. */
 struct model_verdict model_check_handler(const uint8_t *sheet, size_t length);
 
 /* Runs a sheet from word `start`, at most `allowance` words, on a file of
- * `registers` registers. Refuses 3 to 10. */
+ * `registers` registers. Refuses 3 to 7, its words as model_check does, 10. */
 struct model_verdict model_run(const uint8_t *sheet, size_t length,
                                uint32_t *file, size_t registers,
                                struct model_machine *machine,
                                uint64_t start, uint64_t allowance);
 
 /* Runs the main sheet from word 0 to its end, with the handler run whole at
- * each boundary of the schedule. Refuses 3 to 9, 11, 12, 13. */
+ * each boundary of the schedule. Refuses what model_run does but 10, in the main
+ * sheet and then in the handler's; then 11, 12, 13. */
 struct model_verdict model_run_interrupted(
     const uint8_t *main_sheet, size_t main_length,
     const uint8_t *handler_sheet, size_t handler_length,
@@ -157,14 +164,14 @@ uint32_t model_step(const uint8_t *sheet, uint64_t index, uint32_t *file,
 extern const char *const model_mnemonics[MODEL_OPCODES];
 
 /* Lists a sheet: its listing (docs/LISTING.md) at the start of `room` bytes,
- * and in `bytes` how many it has, 0 where it is refused. Refuses 3 to 6, 8, 1,
- * 9 as model_check does, then 14. */
+ * and in `bytes` how many it has, 0 where it is refused. Refuses as model_check
+ * does, then 14. */
 struct model_verdict model_list(const uint8_t *sheet, size_t length,
                                 uint8_t *text, size_t room, size_t *bytes);
 
 /* Reads a listing: its sheet at the start of `room` bytes, and in `bytes` how
  * many it has, 0 where it is refused. Refuses, with the line as the place, 15,
- * 4, 5, 2, 9; then 16, 14. */
+ * 4, 5, 2, 17, 9; then 16, 14. */
 struct model_verdict model_read(const uint8_t *text, size_t length,
                                 uint8_t *sheet, size_t room, size_t *bytes);
 

@@ -54,9 +54,10 @@ static struct model_word field_op(enum model_opcode opcode, int position,
     return word;
 }
 
+/* A word without its write, and so with Y 0. */
 static struct model_word no_write(struct model_word word)
 {
-    word.write = 0;
+    word.write = word.y = 0;
     return word;
 }
 
@@ -168,7 +169,8 @@ static int has_page(int opcode)
     return model_mnemonics[opcode][0] != '\0';
 }
 
-/* A word with any fields, on registers 0 to 31. */
+/* A word with any fields, on registers 0 to 31; Y is 0 where it does not
+ * write. */
 static struct model_word any_word(uint64_t *x, int opcode)
 {
     struct model_word word =
@@ -181,7 +183,7 @@ static struct model_word any_word(uint64_t *x, int opcode)
     word.macro_carry = (uint8_t)below(x, 2);
     word.macro_link = (uint8_t)below(x, 2);
     word.borrow = (uint8_t)below(x, 2);
-    return word;
+    return word.write ? word : no_write(word);
 }
 
 /* One operation alone, with the same fields whichever it is, so that two
@@ -235,16 +237,16 @@ static void put_handler(struct bench_sheet *sheet)
     enum { SAVE_S = 62, SAVE_Q = 63, OWN = 32 };
     put(sheet, op(OP_PASS_STAT, FOUR_BYTES, OWN, OWN, SAVE_S));
     put(sheet, op(OP_PASS_Q, FOUR_BYTES, OWN, OWN, SAVE_Q));
-    put(sheet, no_write(op(OP_LOADQ_A, FOUR_BYTES, OWN, OWN, OWN)));
-    put(sheet, no_write(op(OP_LDSTAT_A, FOUR_BYTES, OWN, OWN, OWN)));
+    put(sheet, no_write(op(OP_LOADQ_A, FOUR_BYTES, OWN, OWN, 0)));
+    put(sheet, no_write(op(OP_LDSTAT_A, FOUR_BYTES, OWN, OWN, 0)));
     put(sheet, op(OP_INCR_A, FOUR_BYTES, OWN + 1, OWN, OWN + 1));
     put(sheet, op(OP_ADD, TWO_BYTES, OWN + 1, OWN + 2, OWN + 2));
     put(sheet, op(OP_XOR, FOUR_BYTES, OWN + 2, OWN + 3, OWN + 3));
     put(sheet, op(OP_UP1_LF_AQ, FOUR_BYTES, OWN + 3, OWN, OWN + 4));
     put(sheet, field_op(OP_PASSF_A, 5, 9, OWN + 4, OWN + 5, OWN + 5));
     put(sheet, op(OP_PASS_Q, FOUR_BYTES, OWN, OWN, OWN + 6));
-    put(sheet, no_write(op(OP_LOADQ_A, FOUR_BYTES, SAVE_Q, OWN, OWN)));
-    put(sheet, no_write(op(OP_LDSTAT_A, FOUR_BYTES, SAVE_S, OWN, OWN)));
+    put(sheet, no_write(op(OP_LOADQ_A, FOUR_BYTES, SAVE_Q, OWN, 0)));
+    put(sheet, no_write(op(OP_LDSTAT_A, FOUR_BYTES, SAVE_S, OWN, 0)));
 }
 
 /* A boundary every so many words. */

@@ -9,7 +9,8 @@
  *                                   sheet comes out the same run at once and
  *                                   in parts
  *   test-model words                packing, unpacking, their refusals
- *   test-model forms                every way to break one field of a handler
+ *   test-model forms                every way to break one field of a handler,
+ *                                   and what names a register
  *   test-model listings < BUNDLE    prints the answer to each case of a listing
  *
  * The formats and the draw are described in ../oracle/README.md. Exit status 1
@@ -145,16 +146,26 @@ static void make_unusual(struct call *call, uint64_t kind, uint8_t n)
     }
 }
 
+/* A word that does not write has Y 0, but for one in sixteen, whose Y is left
+ * idle. */
 static struct model_word word_of(const struct model_inputs *in, uint64_t how)
 {
+    uint8_t write = (uint8_t)((how >> 18) % 2);
+    int has_y = write == 1 || (how >> 32) % 16 == 0;
     struct model_word word = {
         .opcode = in->opcode, .byte_code = in->byte_code,
         .position = in->position, .width = in->width,
         .a = (uint8_t)(how % 64), .b = (uint8_t)((how >> 6) % 64),
-        .y = (uint8_t)((how >> 12) % 64), .write = (uint8_t)((how >> 18) % 2),
+        .y = (uint8_t)(has_y ? (how >> 12) % 64 : 0), .write = write,
         .macro_select = in->macro_select, .macro_carry = in->macro_carry,
         .macro_link = in->macro_link, .borrow = in->borrow};
     return word;
+}
+
+/* Puts Y and write into a packed word. Packing would refuse a field left idle. */
+static void put_y(uint8_t packed[MODEL_WORD_BYTES], uint8_t y, uint8_t write)
+{
+    packed[4] = (uint8_t)(y * 4 + write * 2 + packed[4] % 2);
 }
 
 /* Runs one more case on the file, and folds what it leaves into the sum. */
@@ -172,6 +183,7 @@ static uint64_t run_case(uint64_t sum, const struct model_inputs *in,
     file[word.b] = in->b;
     values[0] = model_pack(&word, packed, MODEL_WORD_BYTES).reason;
     *packed = (uint8_t)(word.opcode % 128 * 2 + *packed % 2);
+    put_y(packed, word.y, word.write);
     if ((how >> 19) % 16 == 0)
         make_unusual(&call, (how >> 23) % 8, (uint8_t)((how >> 26) % 64));
     ran = model_run(call.sheet, call.length, file, call.lent, &machine,
@@ -561,10 +573,48 @@ static void try_bytes(const uint8_t *bytes)
     expect(packed[0] == 0, "bytes changed by a refusal");
     expect(model_pack(&word, packed, 7).reason == MODEL_DONE, "pack");
     expect(memcmp(bytes, packed, 6) == 0 && packed[6] == 0xA5, "round trip");
+    word.write = 0;
+    word.y |= 1;
+    expect(model_pack(&word, packed, 0).reason == MODEL_IDLE, "idle");
     word.position |= 64;
     expect(model_pack(&word, packed, 0).reason == MODEL_INPUTS, "inputs");
     word.opcode = 0x4C;
     expect(model_pack(&word, packed, 0).reason == MODEL_OPCODE, "opcode");
+}
+
+/* The reason of a sheet of one word on four registers, and of unpacking it:
+ * the same but for 9 Register, which unpacking does not give. */
+static void expect_reason(const uint8_t bytes[MODEL_WORD_BYTES], uint32_t reason)
+{
+    uint8_t sheet[10] = {0x10, 0x01, 4 << 1, 0x00};
+    struct model_word word;
+    memcpy(sheet + 4, bytes, MODEL_WORD_BYTES);
+    expect(model_check(sheet, sizeof sheet).reason == reason, "order, sheet");
+    expect(model_unpack(bytes, MODEL_WORD_BYTES, &word).reason ==
+               (reason == MODEL_REGISTER ? MODEL_DONE : reason),
+           "order, unpack");
+}
+
+/* A word with every fault that a sheet can have in it, put right one by one:
+ * 8 Spare, 17 Idle, 1 Opcode, 9 Register. */
+static void try_order(void)
+{
+    uint8_t bytes[MODEL_WORD_BYTES] = {0x4C << 1, 0, 0, 5, 5 << 2, 1};
+    expect_reason(bytes, MODEL_SPARE);
+    bytes[5] = 0;
+    expect_reason(bytes, MODEL_IDLE);
+    put_y(bytes, 5, 1);
+    expect_reason(bytes, MODEL_OPCODE);
+    bytes[0] = OP_ADD << 1;
+    expect_reason(bytes, MODEL_REGISTER);
+    put_y(bytes, 0, 0);
+    expect_reason(bytes, MODEL_REGISTER);
+    bytes[3] = 3;
+    expect_reason(bytes, MODEL_DONE);
+    for (uint8_t y = 1; y < 64; y++) {
+        put_y(bytes, y, 0);
+        expect_reason(bytes, MODEL_IDLE);
+    }
 }
 
 static int try_words(void)
@@ -578,8 +628,11 @@ static int try_words(void)
             bytes[j] = (uint8_t)(bits >> (8 * j + 8));
         if (bits % 8 != 0)
             bytes[5] &= 0xE0;
+        if (bits / 8 % 8 != 0 && bytes[4] / 2 % 2 == 0)
+            put_y(bytes, 0, 0);
         try_bytes(bytes);
     }
+    try_order();
     bytes[5] |= 1;
     expect(model_unpack(bytes, 5, &word).reason == MODEL_ROOM, "room, unpack");
     printf("words: %lu checks of packing and unpacking, %lu misses\n", tried,
@@ -589,7 +642,7 @@ static int try_words(void)
 
 /* ---- The handler's form ------------------------------------------------- */
 
-enum { SAVE_S = 2, SAVE_Q = 3, OWN = 4, OTHER = 5, BODY = 4, LAST = 6 };
+enum { OWN = 4, OTHER = 5, DECLARED = 6, BODY = 4, LAST = 6 };
 
 /* The fields of a word as an array, in the order of struct model_word. */
 enum { OPCODE, BYTE_CODE, POSITION, WIDTH, A, B, Y, WRITE, FIELDS = 12 };
@@ -598,58 +651,92 @@ _Static_assert(sizeof(struct model_word) == FIELDS, "a byte a field");
 
 typedef uint8_t fields[FIELDS];
 
-static const fields GOOD[LAST + 1] = {
-    {OP_PASS_STAT, 0, 1, 2, OWN, OWN, SAVE_S, 1},
-    {OP_PASS_Q, 0, 1, 2, OWN, OWN, SAVE_Q, 1},
-    {OP_LOADQ_A, 0, 1, 2, OWN, OWN, OWN, 0},
-    {OP_LDSTAT_A, 0, 1, 2, OWN, OWN, OWN, 0},
-    {OP_ADD, 0, 1, 2, OWN, OWN, OWN, 1},
-    {OP_LOADQ_A, 0, 1, 2, SAVE_Q, OWN, OWN, 0},
-    {OP_LDSTAT_A, 0, 1, 2, SAVE_S, OWN, OWN, 0}};
+static fields good[LAST + 1];
 
-/* The place where a handler with this one field changed breaks the form by
- * document 01, or -1: position and width are free, and so is the body but for
- * the save registers. */
+/* A good handler, with its save registers. Where they are register 0, the words
+ * that do not write have that number in Y, and do not name it. */
+static void make_good(uint8_t s, uint8_t q)
+{
+    const fields words[LAST + 1] = {
+        {OP_PASS_STAT, 0, 1, 2, OWN, OWN, s, 1},
+        {OP_PASS_Q, 0, 1, 2, OWN, OWN, q, 1},
+        {OP_LOADQ_A, 0, 1, 2, OWN, OWN, 0, 0},
+        {OP_LDSTAT_A, 0, 1, 2, OWN, OWN, 0, 0},
+        {OP_ADD, 0, 1, 2, OWN, OWN, OWN, 1},
+        {OP_LOADQ_A, 0, 1, 2, q, OWN, 0, 0},
+        {OP_LDSTAT_A, 0, 1, 2, s, OWN, 0, 0}};
+    memcpy(good, words, sizeof good);
+}
+
+struct small_sheet {
+    uint8_t bytes[MODEL_HEADER_BYTES + MODEL_WORD_BYTES * (LAST + 1)];
+    size_t length;
+};
+
+/* The sheet of some words, also where they have a field left idle. */
+static struct small_sheet sheet_of(fields *words, int count)
+{
+    struct small_sheet sheet = {{0x10, (uint8_t)count, DECLARED << 1, 0},
+                                MODEL_HEADER_BYTES};
+    for (int i = 0; i < count; i++) {
+        struct model_word word;
+        uint8_t *packed = sheet.bytes + sheet.length;
+        memcpy(&word, words[i], sizeof word);
+        word.y = 0;
+        model_pack(&word, packed, MODEL_WORD_BYTES);
+        put_y(packed, words[i][Y], words[i][WRITE]);
+        sheet.length += MODEL_WORD_BYTES;
+    }
+    return sheet;
+}
+
+static void expect_handler(fields *words, uint32_t reason, uint64_t place,
+                           const char *what)
+{
+    struct small_sheet sheet = sheet_of(words, LAST + 1);
+    struct model_verdict v = model_check_handler(sheet.bytes, sheet.length);
+    expect(v.reason == reason && v.place == place, what);
+}
+
+/* The place where the good handler with this one field changed breaks the form
+ * by document 01, or -1: position and width are free, and so is the body but
+ * for the save registers. */
 static int place_of_change(int word, int at, uint8_t value)
 {
-    if (value == GOOD[word][at] || at == POSITION || at == WIDTH)
+    const uint8_t s = good[0][Y], q = good[1][Y];
+    if (value == good[word][at] || at == POSITION || at == WIDTH)
         return -1;
     if (at < A || at > Y)
         return word == BODY ? -1 : word;
     if (at == Y && word < 2) { /* s or q is another register now */
-        if (value == (word == 0 ? SAVE_Q : SAVE_S))
+        if (value == (word == 0 ? q : s))
             return 1;
         if (value == OWN)
             return 0; /* which word 0 names in A */
         return word == 0 ? LAST : LAST - 1;
     }
-    if (value == SAVE_S || value == SAVE_Q)
+    if (value == s || value == q)
         return word;
     return at == A && word > BODY ? word : -1;
 }
 
+/* A field left idle is refused before the form is looked at. */
 static void try_change(int word, int at, uint8_t value)
 {
-    uint8_t sheet[4 + 6 * (LAST + 1)] = {0x10, LAST + 1, 6 << 1, 0};
-    int expected = place_of_change(word, at, value);
-    struct model_verdict v;
-    for (int i = 0; i <= LAST; i++) {
-        struct model_word packed;
-        fields f;
-        memcpy(f, GOOD[i], sizeof f);
-        if (i == word)
-            f[at] = value;
-        memcpy(&packed, f, sizeof packed);
-        model_pack(&packed, sheet + 4 + 6 * i, 6);
-    }
-    v = model_check_handler(sheet, sizeof sheet);
-    expect(expected < 0 ? v.reason == MODEL_DONE && v.place == 0
-                        : v.reason == MODEL_FORM &&
-                              v.place == (uint64_t)expected,
-           "handler with one field changed");
+    static const char what[] = "handler with one field changed";
+    int place = place_of_change(word, at, value);
+    fields words[LAST + 1];
+    memcpy(words, good, sizeof words);
+    words[word][at] = value;
+    if (words[word][WRITE] == 0 && words[word][Y] != 0)
+        expect_handler(words, MODEL_IDLE, (uint64_t)word, what);
+    else if (place >= 0)
+        expect_handler(words, MODEL_FORM, (uint64_t)place, what);
+    else
+        expect_handler(words, MODEL_DONE, 0, what);
 }
 
-static int try_forms(void)
+static void try_changes(void)
 {
     static const uint8_t opcodes[] = {OP_PASS_STAT, OP_PASS_Q, OP_LOADQ_A,
                                       OP_LOADQ_B, OP_LDSTAT_A, OP_LDSTAT_B,
@@ -670,7 +757,62 @@ static int try_forms(void)
             for (uint8_t value = 0; value < 2; value++)
                 try_change(word, at, value);
     }
-    printf("forms: %lu handlers, %lu misses\n", tried, missed);
+}
+
+/* Words that write in a good handler, without it: words 0 and 1 are at fault,
+ * and their Y is s or q all the same; the body may be so. */
+static void try_unwritten(void)
+{
+    make_good(2, 3);
+    good[1][Y] = good[1][WRITE] = 0;
+    expect_handler(good, MODEL_FORM, 1, "word 1 does not write");
+    good[0][B] = 0;
+    expect_handler(good, MODEL_FORM, 0, "q is 0 then, which word 0 names");
+    make_good(0, 3);
+    good[BODY][Y] = good[BODY][WRITE] = 0;
+    expect_handler(good, MODEL_DONE, 0, "the body does not write");
+}
+
+/* What an interrupted run says to one main word with register 0 in Y and the
+ * good handler. A refusal is at that word. */
+static uint32_t overlap_with(uint8_t write)
+{
+    fields words[1] = {{OP_ADD, 0, 0, 0, OTHER, OTHER, 0, write}};
+    struct small_sheet main_sheet = sheet_of(words, 1);
+    struct small_sheet handler = sheet_of(good, LAST + 1);
+    const uint16_t schedule[] = {0, 1};
+    uint32_t file[DECLARED] = {0};
+    struct model_machine machine = {0, 0};
+    struct model_verdict v = model_run_interrupted(
+        main_sheet.bytes, main_sheet.length, handler.bytes, handler.length,
+        schedule, 2, file, DECLARED, &machine);
+    int is_done = v.reason == MODEL_DONE;
+    expect(v.place == (is_done ? 1 + 2 * (LAST + 1) : 0), "place of an overlap");
+    expect(v.mark == (is_done ? MODEL_NEITHER : MODEL_MAIN), "mark of it");
+    return v.reason;
+}
+
+/* Y names a register only where a word writes, in the main sheet and in the
+ * handler's. */
+static void try_overlap(void)
+{
+    make_good(0, 3);
+    expect(overlap_with(0) == MODEL_DONE, "main does not write register 0");
+    expect(overlap_with(1) == MODEL_OVERLAP, "main writes register 0");
+    make_good(2, 3);
+    expect(overlap_with(1) == MODEL_DONE, "the handler does not write it");
+}
+
+static int try_forms(void)
+{
+    static const uint8_t saves[][2] = {{2, 3}, {0, 3}, {3, 0}};
+    for (size_t i = 0; i < sizeof saves / sizeof *saves; i++) {
+        make_good(saves[i][0], saves[i][1]);
+        try_changes();
+    }
+    try_unwritten();
+    try_overlap();
+    printf("forms: %lu checks of handlers, %lu misses\n", tried, missed);
     return missed != 0;
 }
 

@@ -42,7 +42,7 @@ echo "== handlers and interrupted runs"
 "$test" forms
 "$oracle" interrupts "${INTERRUPTS:-2000}" >"$work/lines"
 "$test" interrupts <"$work/lines"
-for reason in 00 01 03 04 05 06 07 08 09 0B 0C 0D; do
+for reason in 00 01 03 04 05 06 07 08 09 0B 0C 0D 11; do
     grep -q "^[^ ]* [^ ]* [^ ]* [^ ]* [^ ]* [^ ]* $reason " "$work/lines" ||
         { echo "interrupts: no line with reason $reason"; exit 1; }
 done
