@@ -108,7 +108,7 @@ extern "C" {
 /* The version of this header, and of the library that am29332_library_version
  * answers for. Another major number: a caller must be changed. A higher minor
  * one: something was added. */
-#define AM29332_LIBRARY_VERSION_MAJOR 3
+#define AM29332_LIBRARY_VERSION_MAJOR 4
 #define AM29332_LIBRARY_VERSION_MINOR 0
 #define AM29332_LIBRARY_VERSION_PATCH 0
 #define AM29332_LIBRARY_VERSION                                                \
@@ -160,7 +160,9 @@ enum am29332_reason {
                                     a listing, or the sheet of one, longer than
                                     the buffer [0] */
     AM29332_REASON_TEXT = 15,    /* a line outside the listing's form [line] */
-    AM29332_REASON_COUNT = 16    /* a listing of more than 4,095 words [0] */
+    AM29332_REASON_COUNT = 16,   /* a listing of more than 4,095 words [0] */
+    AM29332_REASON_IDLE = 17     /* a word with write 0 whose y is not 0 [word;
+                                    in a listing the line] */
 };
 
 /* A reason's name in documents 01 and 02; "unknown" for a number that has
@@ -185,6 +187,7 @@ static inline const char *am29332_reason_name(uint32_t reason)
     case AM29332_REASON_ROOM: return "Room";
     case AM29332_REASON_TEXT: return "Text";
     case AM29332_REASON_COUNT: return "Count";
+    case AM29332_REASON_IDLE: return "Idle";
     default: return "unknown";
     }
 }
@@ -292,7 +295,9 @@ typedef struct am29332_machine {
     uint32_t status;
 } am29332_machine;
 
-/* The fields of a sheet's word, in the order in which they are packed. */
+/* The fields of a sheet's word, in the order in which they are packed. A word
+ * names registers a and b, used or not, and register y where write is 1; where
+ * it is 0, the 0 in y names none. */
 typedef struct am29332_word {
     uint32_t opcode;   /* 0 to 127 */
     uint32_t code;     /* byte code I8 I7: 0 four bytes, 1 one, 2 two, 3 three;
@@ -302,7 +307,7 @@ typedef struct am29332_word {
     uint32_t width;    /* 0 to 31 */
     uint32_t a;        /* registers, 0 to 63 */
     uint32_t b;
-    uint32_t y;
+    uint32_t y;        /* 0 where write is 0 */
     uint32_t write;  /* 1: Y is stored in register y */
     uint32_t select; /* macro select. 1: where an operation takes a carry or a
                         link in, it is the macro carry or macro link, not C or
@@ -460,8 +465,8 @@ am29332_answer am29332_single_word(am29332_inputs inputs);
  *
  * Promises: those six hold the fields, most significant first, and the bytes
  * past the sixth stay.
- * Refuses, in this order: 1 OPCODE, 2 INPUTS, 14 ROOM; no byte is changed. The
- * place is always 0.
+ * Refuses, in this order: 1 OPCODE, 2 INPUTS, 17 IDLE, 14 ROOM; no byte is
+ * changed. The place is always 0.
  */
 am29332_outcome am29332_pack(am29332_word word, uint8_t *bytes, size_t length);
 
@@ -469,8 +474,8 @@ am29332_outcome am29332_pack(am29332_word word, uint8_t *bytes, size_t length);
  * Unpacks the first six of `length` bytes.
  *
  * Promises: the fields that packing would put there.
- * Refuses, in this order: 14 ROOM, 8 SPARE, 1 OPCODE; all fields are then 0.
- * The place is always 0.
+ * Refuses, in this order: 14 ROOM, 8 SPARE, 17 IDLE, 1 OPCODE; all fields are
+ * then 0. The place is always 0.
  */
 am29332_unpacked am29332_unpack(const uint8_t *bytes, size_t length);
 
@@ -492,7 +497,8 @@ am29332_heading am29332_read_header(const uint8_t *sheet, size_t length);
  * Promises: 0 DONE with place 0 exactly when a run from word 0 on a file of the
  * declared number of registers is not refused.
  * Refuses, in this order: 3 SHORT, 4 VERSION, 5 HEADER, 6 LENGTH; then words in
- * order, in each 8 SPARE, 1 OPCODE, 9 REGISTER, with the word as the place.
+ * order, in each 8 SPARE, 17 IDLE, 1 OPCODE, 9 REGISTER, with the word as the
+ * place.
  */
 am29332_outcome am29332_check_sheet(const uint8_t *sheet, size_t length);
 
@@ -505,9 +511,10 @@ am29332_outcome am29332_check_sheet(const uint8_t *sheet, size_t length);
  *   words 2 and 3         LOADQ-A, LDSTAT-A, both with write 0
  *   any number of words   the body
  *   the last two          LOADQ-A from q, LDSTAT-A from s, both with write 0
- * The six have byte code and switches 0. No other field A, B or Y of any word,
- * used or not, names s or q.
- * Refuses: as am29332_check_sheet does, then 11 FORM.
+ * The six have byte code and switches 0. Except as just listed, no word names s
+ * or q (am29332_word says what names a register); either may be register 0.
+ * Refuses: as am29332_check_sheet does, then 11 FORM, where s and q are y of
+ * words 0 and 1 as they stand, written or not.
  */
 am29332_outcome am29332_check_handler(const uint8_t *sheet, size_t length);
 
@@ -540,8 +547,8 @@ am29332_wrote am29332_list_sheet(const uint8_t *sheet, size_t length,
  * Refuses the first fault, going through the lines in order; the place is the
  * line, and the first line is 0. In the first line, in this order: 15 TEXT
  * (also of an empty text), 4 VERSION, 5 HEADER; in each other line 15 TEXT, 2
- * INPUTS, 9 REGISTER. Where every line is good: 16 COUNT, 14 ROOM, place 0. No
- * byte is changed, and `bytes` is 0.
+ * INPUTS, 17 IDLE, 9 REGISTER. Where every line is good: 16 COUNT, 14 ROOM,
+ * place 0. No byte is changed, and `bytes` is 0.
  */
 am29332_wrote am29332_read_listing(const uint8_t *text, size_t length,
                                    uint8_t *sheet, size_t room);
@@ -556,8 +563,8 @@ am29332_wrote am29332_read_listing(const uint8_t *text, size_t length,
  * is 1. Bit 13 of the status is in carry mode. Going on from start + place with
  * what a run left is the same as one longer run.
  * Refuses, in this order: 3 SHORT, 4 VERSION, 5 HEADER, 6 LENGTH, 7 FILE; then
- * words in order, in each 8 SPARE, 1 OPCODE, 9 REGISTER; then 10 START. The
- * whole sheet is checked, also the words that would not run.
+ * words in order, in each 8 SPARE, 17 IDLE, 1 OPCODE, 9 REGISTER; then 10
+ * START. The whole sheet is checked, also the words that would not run.
  */
 am29332_ran am29332_run(const uint8_t *sheet, size_t length,
                         uint32_t *file, size_t registers,

@@ -112,8 +112,9 @@ static void put_header(uint8_t *sheet, size_t words, size_t registers)
 /*
  * A handler that counts how often it is let in. Its registers are the four from
  * `first` on, which no main sheet of `first` registers names: where it saves
- * status and Q, its count, and a zero to start from. A field that a word does
- * not use names a register all the same, so it names the count.
+ * status and Q, its count, and a zero to start from. A and B name a register
+ * whether a word uses them or not, so where it does not they name the count. Y
+ * is 0 where a word does not write, and then names none.
  */
 static void make_handler(uint32_t first, uint8_t sheet[HANDLER_BYTES])
 {
@@ -124,11 +125,11 @@ static void make_handler(uint32_t first, uint8_t sheet[HANDLER_BYTES])
     } words[HANDLER_WORDS] = {
         {AM29332_OP_PASS_STAT, count, s, 1},
         {AM29332_OP_PASS_Q, count, q, 1},
-        {AM29332_OP_LOADQ_A, zero, count, 0},
-        {AM29332_OP_LDSTAT_A, zero, count, 0},
+        {AM29332_OP_LOADQ_A, zero, 0, 0},
+        {AM29332_OP_LDSTAT_A, zero, 0, 0},
         {AM29332_OP_INCR_A, count, count, 1},
-        {AM29332_OP_LOADQ_A, q, count, 0},
-        {AM29332_OP_LDSTAT_A, s, count, 0},
+        {AM29332_OP_LOADQ_A, q, 0, 0},
+        {AM29332_OP_LDSTAT_A, s, 0, 0},
     };
     put_header(sheet, HANDLER_WORDS, first + HANDLER_REGISTERS);
     for (size_t i = 0; i < HANDLER_WORDS; i++) {
@@ -350,6 +351,16 @@ static void refused_word(void)
     print_answer(answer);
 }
 
+/* A register left in Y of a word that does not write, where a reader would take
+ * it for a store. */
+static void idle_field(void)
+{
+    am29332_word word = {.opcode = AM29332_OP_SUB, .b = 1, .y = 5};
+    uint8_t bytes[AM29332_WORD_BYTES];
+    print_outcome("packing SUB without write, Y 5",
+                  am29332_pack(word, bytes, sizeof bytes));
+}
+
 /* Two numbers compared on one byte, as a branch is picked: SUB, and what its
  * answer says. Bit 13 is right in either mode, since it goes by the word's own
  * borrow switch. */
@@ -404,6 +415,7 @@ int main(int count, char **arguments)
     library();
     single_word();
     refused_word();
+    idle_field();
     compare(0);
     compare(1);
     print_outcome("check of no bytes", am29332_check_sheet(NULL, 0));

@@ -121,7 +121,7 @@ mod library {
 }
 
 /// The version of the header that this wrapper was written for: major, minor, patch.
-pub const VERSION: (u32, u32, u32) = (3, 0, 0);
+pub const VERSION: (u32, u32, u32) = (4, 0, 0);
 
 /// Bytes of buffers that always suffice: for a sheet, and for its listing.
 pub const SHEET_MOST: usize = 24_574;
@@ -142,7 +142,8 @@ pub struct Machine {
     pub status: u32,
 }
 
-/// The fields of a sheet's word, in the order in which they are packed.
+/// The fields of a sheet's word, in the order in which they are packed. A word names registers `a`
+/// and `b`, used or not, and register `y` where `write` is 1; where it is 0, `y` has to be 0.
 #[repr(C)]
 #[derive(Clone, Copy, Debug, Default, PartialEq, Eq)]
 pub struct Word {
@@ -224,6 +225,7 @@ pub enum Reason {
     Room,
     Text,
     Count,
+    Idle,
     Unknown(u32),
 }
 
@@ -245,7 +247,7 @@ pub struct Refusal {
 }
 
 /// In the order of the numbers that documents 01 and 02 give them, from 1 on.
-const REASONS: [Reason; 16] = [
+const REASONS: [Reason; 17] = [
     Reason::Opcode,
     Reason::Inputs,
     Reason::Short,
@@ -262,6 +264,7 @@ const REASONS: [Reason; 16] = [
     Reason::Room,
     Reason::Text,
     Reason::Count,
+    Reason::Idle,
 ];
 
 /// In the order of their numbers, from 0 on.
@@ -347,14 +350,14 @@ impl Inputs {
 }
 
 impl Word {
-    /// Packs into the first six bytes; the others stay. Refuses Opcode, Inputs, Room.
+    /// Packs into the first six bytes; the others stay. Refuses Opcode, Inputs, Idle, Room.
     pub fn pack(self, bytes: &mut [u8]) -> Result<(), Refusal> {
         // SAFETY: a slice's own pointer and length, lent to be changed.
         let outcome = unsafe { library::am29332_pack(self, bytes.as_mut_ptr(), bytes.len()) };
         done(outcome, 0).map(|_| ())
     }
 
-    /// Unpacks the first six bytes. Refuses Room, Spare, Opcode.
+    /// Unpacks the first six bytes. Refuses Room, Spare, Idle, Opcode.
     pub fn unpack(bytes: &[u8]) -> Result<Word, Refusal> {
         // SAFETY: a slice's own pointer and length.
         let unpacked = unsafe { library::am29332_unpack(bytes.as_ptr(), bytes.len()) };
@@ -375,7 +378,7 @@ pub fn read_header(sheet: &[u8]) -> Result<Heading, Refusal> {
 }
 
 /// Whether a sheet can run on as many registers as it declares. Refuses Short to Length, then
-/// Spare, Opcode, Register.
+/// Spare, Idle, Opcode, Register.
 pub fn check_sheet(sheet: &[u8]) -> Result<(), Refusal> {
     // SAFETY: a slice's own pointer and length.
     let outcome = unsafe { library::am29332_check_sheet(sheet.as_ptr(), sheet.len()) };
@@ -401,7 +404,8 @@ pub fn list_sheet(sheet: &[u8], text: &mut [u8]) -> Result<usize, Refusal> {
 }
 
 /// The sheet that a text stands for, at the start of `sheet`; how many bytes it has. Refuses line by
-/// line: Text, Version, Header of the first; Text, Inputs, Register of the others. Then Count, Room.
+/// line: Text, Version, Header of the first; Text, Inputs, Idle, Register of the others. Then Count,
+/// Room.
 pub fn read_listing(text: &[u8], sheet: &mut [u8]) -> Result<usize, Refusal> {
     // SAFETY: slices' own pointers and lengths, of which `sheet` alone is lent to be changed, and
     // overlaps no other.

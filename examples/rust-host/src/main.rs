@@ -18,12 +18,13 @@ const HANDLER_REGISTERS: usize = 4;
 const PANEL_WORDS: usize = 8;
 const LISTING_LINES: usize = 8;
 
-// Opcodes that the handler uses.
+// Opcodes of the handler's words, and of the subtraction.
 const PASS_STAT: u32 = 0x04;
 const PASS_Q: u32 = 0x05;
 const LOADQ_A: u32 = 0x06;
 const INCR_A: u32 = 0x12;
 const LDSTAT_A: u32 = 0x1C;
+const SUB: u32 = 0x44;
 
 type File = [u32; MOST_REGISTERS];
 
@@ -96,18 +97,18 @@ fn read_job(bytes: Vec<u8>) -> Job {
 
 /// A handler that counts how often it is let in. Its registers are the four from `first` on, which
 /// no main sheet of `first` registers names: where it saves status and Q, its count, and a zero to
-/// start from. A field that a word does not use names a register all the same, so it names the
-/// count.
+/// start from. A and B name a register whether a word uses them or not, so where it does not they
+/// name the count. Y is 0 where a word does not write, and then names none.
 fn make_handler(first: u32) -> Result<Vec<u8>, Refusal> {
     let (s, q, count, zero) = (first, first + 1, first + 2, first + 3);
     let words = [
         (PASS_STAT, count, s, 1),
         (PASS_Q, count, q, 1),
-        (LOADQ_A, zero, count, 0),
-        (LDSTAT_A, zero, count, 0),
+        (LOADQ_A, zero, 0, 0),
+        (LDSTAT_A, zero, 0, 0),
         (INCR_A, count, count, 1),
-        (LOADQ_A, q, count, 0),
-        (LDSTAT_A, s, count, 0),
+        (LOADQ_A, q, 0, 0),
+        (LDSTAT_A, s, 0, 0),
     ];
     let registers = first as usize + HANDLER_REGISTERS;
     let header = 1 << 28 | (words.len() as u32) << 16 | (registers as u32) << 9;
@@ -326,11 +327,23 @@ fn refused_word() {
     print_answer(0, 0, machine.pins());
 }
 
+/// A register left in Y of a word that does not write, where a reader would take it for a store.
+fn idle_field() {
+    let word = Word {
+        opcode: SUB,
+        b: 1,
+        y: 5,
+        ..Word::default()
+    };
+    let packed = word.pack(&mut [0; WORD_BYTES]);
+    print_check("packing SUB without write, Y 5", packed);
+}
+
 /// Two numbers compared on one byte, as a branch is picked: SUB, and what its answer says. Bit 13 is right in
 /// either mode, since it goes by the word's own borrow switch.
 fn compare(borrow: u32) {
     let inputs = Inputs {
-        opcode: 0x44,
+        opcode: SUB,
         code: 1,
         borrow,
         a: 0x0F,
@@ -374,6 +387,7 @@ fn main() {
     library();
     single_word();
     refused_word();
+    idle_field();
     compare(0);
     compare(1);
     print_check("check of no bytes", check_sheet(&[]));
