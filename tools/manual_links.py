@@ -11,6 +11,8 @@ from glob import glob
 
 os.chdir(os.path.join(os.path.dirname(os.path.abspath(__file__)), ".."))
 wrong = []
+# where an edit is: the gate's, and those of tools/edits.sh
+EDITS = ("crates/%s/must-fail/%s.edit", "crates/%s/more-edits/%s.edit")
 # what shows an entry: how its names are told from the words about them, where they are, and how a name is found there
 KINDS = {
     "fault": (r"`(\w+)`", "oracle/src/faults.rs", r'^    %s: "'),
@@ -36,7 +38,7 @@ def shown(entry, part):
         names = files(entry, part)
     elif kind == "must-fail":
         names = re.findall(r"`([^`]+/[^`]+)`", part)
-        absent = [n for n in names if not os.path.isfile("crates/%s/must-fail/%s.edit" % tuple(n.split("/")))]
+        absent = [n for n in names if not any(os.path.isfile(p % tuple(n.split("/"))) for p in EDITS)]
     elif kind in KINDS:
         names = re.findall(KINDS[kind][0], part)
         absent = [n for n in names if not re.search(KINDS[kind][2] % n, read(KINDS[kind][1]), re.M)]

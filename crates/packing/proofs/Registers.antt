@@ -101,7 +101,7 @@ pub names-y : (w : Word) → (w .write ≡ 0 → ⊥) → isIn (namesOf w) (w .y
 unfolding namesOf
 names-y w h = rw (destination-y w h) (simp (in-or, in-only, or-true))
 
--- the register fields of any number have six bits
+-- the fields of any number
 pub narrow : (v : ℕ) → Narrow (fieldsOf v)
 unfolding fieldsOf
-narrow v = record { a = omega arith; b = omega arith; y = omega arith }
+narrow v = record { a = omega arith; b = omega arith; y = omega arith; write = omega arith }

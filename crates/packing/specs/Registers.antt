@@ -38,8 +38,9 @@ unfoldable pub namesAll : List Word → ℕ
 namesAll [] = 0
 namesAll (w ∷ ws) = bitOr (namesOf w) (namesAll ws)
 
--- its register fields have six bits
+-- its register fields have six bits, and write one
 pub record Narrow (w : Word) : Type 0 where
   pub a : w .a < 64
   pub b : w .b < 64
   pub y : w .y < 64
+  pub write : w .write < 2

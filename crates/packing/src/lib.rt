@@ -183,15 +183,12 @@ pub fn sources(w: Word) -> u64
     only(w.a) | only(w.b)
 }
 
-// As destination: Y, and none where the word does not write.
+// As destination: Y, and none where the word does not write. The bit that says so is moved to Y's place, for which no branch is needed.
 pub fn destination(w: Word) -> u64
     requires { ⌜ Narrow w ⌝ }
     ensures { λ s. ⌜ s ≡ destinationOf w ⌝ }
 {
-    if w.write == 0 {
-        return 0;
-    }
-    only(w.y)
+    (w.write as u64) << w.y
 }
 
 // All that it names.

@@ -34,7 +34,7 @@ use Rattle.sheet.proofs.Positions.{All, all-drop}
 use Rattle.sheet.proofs.Positions.All.{none, more}
 use Rattle.sheet.proofs.Table.{ready}
 use Rattle.run.specs.Run.{entering, Ended, ended, ran, runOf, outcomeAfter, runOutcome}
-use Rattle.run.specs.Step.{Halted, halted, idle, standing, ranAs, leftBy, performedOn, firstOn, unless, oneWordOf}
+use Rattle.run.specs.Step.{Halted, halted, noWord, standing, ranAs, leftBy, performedOn, firstOn, unless, oneWordOf}
 use Rattle.run.proofs.Laws.{each-ready, outputs-kept}
 use Rattle.run.proofs.Parts.{run-refused, run-is, entering-sane}
 
@@ -81,7 +81,7 @@ asRun c h = ended (record { reason = h .answer .reason; place = h .answer .place
 
 module _ (s file : List ℕ) (m : Machine) (start : ℕ) where
   pub step-refused : (r : Reason) (p : ℕ) → checkOf s (Number (length file)) (Number start) ≡ Bad r p
-      → halted (idle r p m) file ≡ oneWordOf s file m start
+      → halted (noWord r p m) file ≡ oneWordOf s file m start
   unfolding oneWordOf
   step-refused r p e = sym (ap (λ (c : Check). unless c file m (firstOn (drop start (executionsOf s)) file m)) e)
 

@@ -29,8 +29,8 @@ halted a file = record { answer = a; file = file }
 
 -- ---- no word ran
 -- Y and parity are 0, and the pins show the status
-abbrev pub idle : Reason → ℕ → Machine → StepAnswer
-idle reason place m = record { reason = reason; place = place; y = 0; parity = 0; machine = m; pins = pinsOf (loaded (m .status)) }
+abbrev pub noWord : Reason → ℕ → Machine → StepAnswer
+noWord reason place m = record { reason = reason; place = place; y = 0; parity = 0; machine = m; pins = pinsOf (loaded (m .status)) }
 
 -- ---- a word ran
 -- what stands at the chip: the word's fields, the registers that it names as A and B, Q and status as they were handed in
@@ -66,13 +66,13 @@ performedOn w file m = leftBy w file (singleOf (standing w file m))
 -- ---- a step
 -- the first of the executions left; where none is left, Q and status are handed back as a run of no word does
 abbrev pub firstOn : List Word → List ℕ → Machine → Halted
-firstOn [] file m = halted (idle Done 0 (handedBack (taken m))) file
+firstOn [] file m = halted (noWord Done 0 (handedBack (taken m))) file
 firstOn (w ∷ ws) file m = performedOn w file m
 
 -- refused: registers, Q and status are as they were, bit for bit
 abbrev pub unless : Check → List ℕ → Machine → Halted → Halted
 unless Passed file m e = e
-unless (Bad reason place) file m e = halted (idle reason place m) file
+unless (Bad reason place) file m e = halted (noWord reason place m) file
 
 unfoldable pub oneWordOf : List ℕ → List ℕ → Machine → ℕ → Halted
 oneWordOf s file m start =

@@ -19,7 +19,7 @@ ghost use Rattle.machine.specs.Pins.{pinsIn};
 ghost use Rattle.chip.specs.Lists.{state};
 ghost use Rattle.sheet.specs.Sheet.{sheetOf, wordsOf, wordAt, executionsOf, between, WordReady, Ready};
 ghost use Rattle.run.specs.Run.{Stepped, Went, ended, runOf, runOutcome, inParts};
-ghost use Rattle.run.specs.Step.{standing, halted, idle, performedOn, oneWordOf};
+ghost use Rattle.run.specs.Step.{standing, halted, noWord, performedOn, oneWordOf};
 
 // What a run answers: done, with the number of words run as its place, or the reason and place of a refusal; Q and status.
 pub struct RunAnswer {
@@ -190,7 +190,7 @@ pub fn run(
 
 // No word ran: Y and its parity are 0, and the pins show the status.
 fn no_word(reason: Reason, place: usize, machine: Machine) -> StepAnswer
-    ensures { λ r. ⌜ r ≡ idle reason place machine ⌝ }
+    ensures { λ r. ⌜ r ≡ noWord reason place machine ⌝ }
 {
     StepAnswer {
         reason,

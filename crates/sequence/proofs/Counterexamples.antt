@@ -133,8 +133,8 @@ status-odd = (refl, refl, refl)
 -- ---- decimal: 95 + 10 is 105, and 1 is carried out of the top digit but not into it
 abbrev layout : Layout
 layout =
-    let idle : Fields = record { position = 0; width = 0; select = 0; carry = 0; link = 0 } in
-    record { code = 1; a = 0; b = 1; y = 2; side = at-A; other = 1; z = 2; borrow = 0; fields₁ = idle; fields₂ = idle }
+    let ignored : Fields = record { position = 0; width = 0; select = 0; carry = 0; link = 0 } in
+    record { code = 1; a = 0; b = 1; y = 2; side = at-A; other = 1; z = 2; borrow = 0; fields₁ = ignored; fields₂ = ignored }
 
 -- ADD and SUM-CORR-A
 abbrev summed : State
@@ -157,7 +157,7 @@ abbrev registers : Registers
 registers = record { D = 1; R = 2; K = 3; O = 4 }
 
 abbrev unread : Unread
-unread = record { a = 0; b = 0; idle = record { position = 0; width = 0; carry = 0; link = 0 } }
+unread = record { a = 0; b = 0; ignored = record { position = 0; width = 0; carry = 0; link = 0 } }
 
 -- the quotient and the remainder that words leave of the dividend x and the divisor d
 abbrev quotientAndRemainder : List Word → ℕ → ℕ → ℕ × ℕ
@@ -166,7 +166,7 @@ quotientAndRemainder ws x d =
     (readAt (u .file) 3, readAt (u .file) 2)
 
 abbrev divideSigned : ℕ → ℕ → ℕ × ℕ
-divideSigned = quotientAndRemainder (singleDivideWords 1 0 registers unread unread (λ k. unread .idle) (λ k. unread))
+divideSigned = quotientAndRemainder (singleDivideWords 1 0 registers unread unread (λ k. unread .ignored) (λ k. unread))
 
 -- 7 by 2, 7 by -2, -7 by 2 and -7 by -2 are 3, -3, -3 and 3, with remainders of the dividend's sign; -9 by 3 and -8 by 2 leave none
 pub signed-divide-leaves :
@@ -178,8 +178,8 @@ signed-divide-leaves = (refl, refl, refl, refl, refl, refl)
 -- the words of table 11-2 one after another, without its jump: of -9 by 3, which leaves no remainder, they leave -2 and -3
 abbrev withoutTheJump : List Word
 withoutTheJump =
-    looking 1 0 0 0x06 (unread .idle) ∷ wordOf 1 0 2 0x3d (unread .idle) ∷ (wordsOf 1 1 2 (signedDivideOpcodes 1) (λ k. unread .idle)
-    ++ (looking 1 1 2 0x5a (unread .idle) ∷ wordOf 1 0 3 0x05 (unread .idle) ∷ wordOf 1 0 3 0x59 (unread .idle) ∷ wordOf 1 1 2 0x58 (unread .idle) ∷ []))
+    looking 1 0 0 0x06 (unread .ignored) ∷ wordOf 1 0 2 0x3d (unread .ignored) ∷ (wordsOf 1 1 2 (signedDivideOpcodes 1) (λ k. unread .ignored)
+    ++ (looking 1 1 2 0x5a (unread .ignored) ∷ wordOf 1 0 3 0x05 (unread .ignored) ∷ wordOf 1 0 3 0x59 (unread .ignored) ∷ wordOf 1 1 2 0x58 (unread .ignored) ∷ []))
 
 pub without-the-jump-fails : quotientAndRemainder withoutTheJump 0xf7 0x03 ≢ (0xfd, 0x00)
 unfolding performOf stepOf execs readAt storeAt gathered spreadOut asRead loaded zeroOf merged carryOf overflowOf putBit loadQ PASS-Q SIGN downshifted down putStatus EXTBIT-STAT SDIVFIRST SDIVSTEP SDIVLAST1 SDIVLAST2 QUOCORR REMCORR wordsOf times

@@ -19,7 +19,7 @@ use Rattle.divide.specs.Steps.{formed, carryOut, upshifted, signQ, unsignedBit,
 use Rattle.divide.specs.Divide.{UDIVFIRST, UDIVSTEP, UDIVLAST, REMCORR}
 use Rattle.chip.specs.Glossary.{performOf}
 use Rattle.chip.specs.Lists.{State, readAt, inputsOf, stepOf, execs}
-use Rattle.sequence.specs.Sequences.{Idle, bitsIn, codeOf, wordOf, wordsOf, divideWords}
+use Rattle.sequence.specs.Sequences.{Ignored, bitsIn, codeOf, wordOf, wordsOf, divideWords}
 use Rattle.sequence.specs.Results.{register, lowQ, oddQ, Divided}
 use Rattle.sequence.proofs.Lists.{Work, view, before, after, Acts, acts-from, carried, carried-back, Reached, start, next, repeated, in-file, untouched-then, word-rest, word-status, word-y, merged-low, merged-high, bits-of-bytes, sign-top, not-cut, cut-sum, halved}
 use Rattle.sequence.proofs.TopBit.{top}
@@ -207,7 +207,7 @@ rem-q x = refl
 
 -- ---- the last two words, from a state u in which no step is left
 module _ (n code a b : ℕ) (bits : selected code ≡ n) (ab : a ≢ b) (t : State) (hb : b < length (t .file))
-    (fits : Asked n (readAt (t .file) a)) (hD : 0 < register n a t) (i j : Idle) (u : State)
+    (fits : Asked n (readAt (t .file) a)) (hD : 0 < register n a t) (i j : Ignored) (u : State)
     (r : Reached steady n code a b (readAt (t .file) a) bits ab t refl hb (Left (2 ^ n) (register n a t) (lowQ n t) 0) u) where
   abbrev x₁ : Inputs
   x₁ = inputsOf (wordOf code a b 0x55 i) u
@@ -333,17 +333,17 @@ module _ (n code a b : ℕ) (bits : selected code ≡ n) (ab : a ≢ b) (t : Sta
 -- quotient and register b the remainder, which is below the divisor; every other register and all unselected bytes are as before, and the status
 -- register is as `dividedStatus` has it.
 pub divide-exact :
-    (w a b : ℕ) (idle : ℕ → Idle) (t : State) → 1 ≤ w → w ≤ 4 → a ≢ b → b < length (t .file) →
+    (w a b : ℕ) (ignored : ℕ → Ignored) (t : State) → 1 ≤ w → w ≤ 4 → a ≢ b → b < length (t .file) →
     readAt (t .file) a < 2 ^ 32 → register (bitsIn w) a t ≢ 0 → register (bitsIn w) b t ≡ 0 →
-    Divided (bitsIn w) a b t (execs (divideWords w a b idle) t)
+    Divided (bitsIn w) a b t (execs (divideWords w a b ignored) t)
 unfolding wordsOf execs
-divide-exact w a b idle t h1 h4 ab hb ha hd h0 =
+divide-exact w a b ignored t h1 h4 ab hb ha hd h0 =
     repeated steady n code a b A bits ab t refl hb 0x54 FlagM (divStep W D) (step-acts n A fits) (Left W D X) (flag-m W D X) (step-left W D X hD) (0x55 ∷ 0x58 ∷ [])
     (Divided n a b t)
-    (λ idle u r. divided n code a b bits ab t hb fits pos (idle 0) (idle 1) u r)
-    (n - 1) (λ k. idle (suc k)) _
+    (λ ignored u r. divided n code a b bits ab t hb fits pos (ignored 0) (ignored 1) u r)
+    (n - 1) (λ k. ignored (suc k)) _
     (next steady n code a b A bits ab t refl hb 0x4f (λ s. Unit) (divFirst W D) (first-acts n A fits) (λ s. (s .B ≡ 0) × (s .Q ≡ X)) (Left W D X (n - 1)) (λ s e. tt)
-    (λ s e. first-left (n - 1) W D X pow pos (mod-lt (t .core .q) (pow-pos n)) s (e .0) (e .1)) (idle 0) t
+    (λ s e. first-left (n - 1) W D X pow pos (mod-lt (t .core .q) (pow-pos n)) s (e .0) (e .1)) (ignored 0) t
     (start steady n code a b A bits ab t refl hb (λ s. (s .B ≡ 0) × (s .Q ≡ X)) (h0, refl)))
   where
     n : ℕ

@@ -19,7 +19,7 @@ use Rattle.machine.specs.Inputs.{bitsOf, zeroSign}
 use Rattle.chip.specs.Glossary.{performOf}
 use Rattle.chip.specs.Lists.{State, readAt, inputsOf, stepOf, execs}
 use Rattle.chip.proofs.Files.{store-length, read-same, read-other}
-use Rattle.sequence.specs.Sequences.{Idle, wordOf, wordsOf, times}
+use Rattle.sequence.specs.Sequences.{Ignored, wordOf, wordsOf, times}
 use Rattle.sequence.specs.Results.{Untouched}
 
 -- ---- selected and unselected bits of a merged word
@@ -146,7 +146,7 @@ untouched-then n b t u v p q =
       above-q = q .above-q ∙ p .above-q;
     }
 
-module _ (n code a b : ℕ) (bits : selected code ≡ n) (i : Idle) (opcode : ℕ) (t : State) (hb : b < length (t .file)) where
+module _ (n code a b : ℕ) (bits : selected code ≡ n) (i : Ignored) (opcode : ℕ) (t : State) (hb : b < length (t .file)) where
   -- what a word leaves outside the selected bits
   pub word-rest :
       performOf opcode (inputsOf (wordOf code a b opcode i) t) .y / 2 ^ n ≡ readAt (t .file) b / 2 ^ n →
@@ -192,7 +192,7 @@ module _ (steady : Status → Status) (n code a b A : ℕ) (bits : selected code
   pub next :
       (opcode : ℕ) (fine : Work → Type 0) (f : Work → Work) → Acts steady n A opcode fine f →
       (P R : Work → Type 0) → ((s : Work) → P s → fine s) → ((s : Work) → P s → R (f s)) →
-      (i : Idle) (t : State) → Reached P t → Reached R (stepOf (wordOf code a b opcode i) t)
+      (i : Ignored) (t : State) → Reached P t → Reached R (stepOf (wordOf code a b opcode i) t)
   next opcode fine f acts P R g h i t p =
       record {
         rest =
@@ -210,10 +210,10 @@ module _ (steady : Status → Status) (n code a b A : ℕ) (bits : selected code
   pub repeated :
       (opcode : ℕ) (fine : Work → Type 0) (f : Work → Work) → Acts steady n A opcode fine f →
       (P : ℕ → Work → Type 0) → ((k : ℕ) (s : Work) → P k s → fine s) → ((k : ℕ) (s : Work) → P (suc k) s → P k (f s)) →
-      (opcodes : List ℕ) (End : State → Type 0) → ((idle : ℕ → Idle) (t : State) → Reached (P 0) t → End (execs (wordsOf code a b opcodes idle) t)) →
-      (k : ℕ) (idle : ℕ → Idle) (t : State) → Reached (P k) t → End (execs (wordsOf code a b (times k opcode opcodes) idle) t)
+      (opcodes : List ℕ) (End : State → Type 0) → ((ignored : ℕ → Ignored) (t : State) → Reached (P 0) t → End (execs (wordsOf code a b opcodes ignored) t)) →
+      (k : ℕ) (ignored : ℕ → Ignored) (t : State) → Reached (P k) t → End (execs (wordsOf code a b (times k opcode opcodes) ignored) t)
   unfolding times wordsOf execs
-  repeated opcode fine f acts P g h opcodes End end zero idle t p = end idle t p
-  repeated opcode fine f acts P g h opcodes End end (suc k) idle t p =
-      repeated opcode fine f acts P g h opcodes End end k (λ j. idle (suc j)) (stepOf (wordOf code a b opcode (idle 0)) t)
-      (next opcode fine f acts (P (suc k)) (P k) (g (suc k)) (h k) (idle 0) t p)
+  repeated opcode fine f acts P g h opcodes End end zero ignored t p = end ignored t p
+  repeated opcode fine f acts P g h opcodes End end (suc k) ignored t p =
+      repeated opcode fine f acts P g h opcodes End end k (λ j. ignored (suc j)) (stepOf (wordOf code a b opcode (ignored 0)) t)
+      (next opcode fine f acts (P (suc k)) (P k) (g (suc k)) (h k) (ignored 0) t p)

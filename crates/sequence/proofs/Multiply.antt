@@ -22,7 +22,7 @@ use Rattle.multiply.proofs.Rows.{first-is, picked}
 use Rattle.chip.specs.Glossary.{performOf}
 use Rattle.chip.specs.Lists.{State, readAt, inputsOf, stepOf, execs}
 use Rattle.sequence.specs.Signed.{signed}
-use Rattle.sequence.specs.Sequences.{Idle, bitsIn, codeOf, wordOf, wordsOf, times, multiplyWords, signedMultiplyWords}
+use Rattle.sequence.specs.Sequences.{Ignored, bitsIn, codeOf, wordOf, wordsOf, times, multiplyWords, signedMultiplyWords}
 use Rattle.sequence.specs.Results.{register, lowQ, Untouched, Multiplied, SignedMultiplied}
 use Rattle.sequence.proofs.Integers.{signed-long}
 use Rattle.sequence.proofs.Lists.{Work, view, before, after, Acts, acts-from, Reached, start, next, repeated, in-file, word-status, word-y, merged-low, merged-high, zero-low, bits-of-bytes, low-digit, second-bit, sign-top}
@@ -211,15 +211,15 @@ module _ (kind : Kind) (w a b : ℕ) (t : State) (h1 : 1 ≤ w) (h4 : w ≤ 4) (
   -- the first word and all the steps, and then the others
   all-steps :
       (opcodes : List ℕ) (End : State → Type 0) →
-      ((idle : ℕ → Idle) (u : State) →
-      Reached (withM 0) (bitsIn w) (codeOf w) a b (readAt (t .file) a) (bits-of-bytes w h1 h4) ab t refl hb (Left W A sign Q 0) u → End (execs (wordsOf (codeOf w) a b opcodes idle) u)) →
-      (idle : ℕ → Idle) → End (execs (wordsOf (codeOf w) a b (kind .first ∷ times (bitsIn w / 2 - 1) (kind .inner) opcodes) idle) t)
+      ((ignored : ℕ → Ignored) (u : State) →
+      Reached (withM 0) (bitsIn w) (codeOf w) a b (readAt (t .file) a) (bits-of-bytes w h1 h4) ab t refl hb (Left W A sign Q 0) u → End (execs (wordsOf (codeOf w) a b opcodes ignored) u)) →
+      (ignored : ℕ → Ignored) → End (execs (wordsOf (codeOf w) a b (kind .first ∷ times (bitsIn w / 2 - 1) (kind .inner) opcodes) ignored) t)
   unfolding wordsOf execs
-  all-steps opcodes End end idle =
+  all-steps opcodes End end ignored =
       repeated (withM 0) n code a b A₀ bits ab t refl hb (kind .inner) (λ s. s .M < 2) (stepped kind W A) (inner-acts kind n A₀ fit)
-      (Left W A sign Q) (λ k s l. l .flag) (step-left W A sign Q sized) opcodes End end (n / 2 - 1) (λ k. idle (suc k)) _
+      (Left W A sign Q) (λ k s l. l .flag) (step-left W A sign Q sized) opcodes End end (n / 2 - 1) (λ k. ignored (suc k)) _
       (next (withM 0) n code a b A₀ bits ab t refl hb (kind .first) (λ s. Unit) (λ s. stepped kind W A (begun s)) (first-acts kind n A₀ fit)
-      (λ s. s .Q ≡ Q) (Left W A sign Q (n / 2 - 1)) (λ s e. tt) first (idle 0) t
+      (λ s. s .Q ≡ Q) (Left W A sign Q (n / 2 - 1)) (λ s e. tt) first (ignored 0) t
       (start (withM 0) n code a b A₀ bits ab t refl hb (λ s. s .Q ≡ Q) refl))
     where
       n : ℕ
@@ -253,16 +253,16 @@ module _ (kind : Kind) (w a b : ℕ) (t : State) (h1 : 1 ≤ w) (h4 : w ≤ 4) (
 -- and Q the low half of the exact product; every other register and all unselected bytes are as before. Z tells whether the high half is zero, M is
 -- the multiplier's top bit, and the rest of the status register is as before.
 pub multiply-exact :
-    (w a b : ℕ) (idle : ℕ → Idle) (t : State) → 1 ≤ w → w ≤ 4 → a ≢ b → b < length (t .file) →
-    Multiplied (bitsIn w) a b t (execs (multiplyWords w a b idle) t)
+    (w a b : ℕ) (ignored : ℕ → Ignored) (t : State) → 1 ≤ w → w ≤ 4 → a ≢ b → b < length (t .file) →
+    Multiplied (bitsIn w) a b t (execs (multiplyWords w a b ignored) t)
 unfolding wordsOf execs unsigned
-multiply-exact w a b idle t h1 h4 ab hb =
+multiply-exact w a b ignored t h1 h4 ab hb =
     all-steps unsigned w a b t h1 h4 ab hb (0x5d ∷ []) (Multiplied n a b t)
-    (λ idle u r. done (idle 0) u (in-file steady n code a b A bits ab t refl hb u (r .rest))
+    (λ ignored u r. done (ignored 0) u (in-file steady n code a b A bits ab t refl hb u (r .rest))
     (next steady n code a b A bits ab t refl hb 0x5d (λ s. Unit) (mulLast W (A % W)) (last-acts n A two)
-    (Left W (A % W) 0 (t .core .q % W) 0) (Product W (A % W) (t .core .q % W)) (λ s l. tt) (last-product W (A % W) (t .core .q % W) (mod-lt A (pow-pos n))) (idle 0) u
+    (Left W (A % W) 0 (t .core .q % W) 0) (Product W (A % W) (t .core .q % W)) (λ s l. tt) (last-product W (A % W) (t .core .q % W) (mod-lt A (pow-pos n))) (ignored 0) u
     (record { rest = r .rest; stays = ap (withZ 0) (r .stays); holds = r .holds })))
-    idle
+    ignored
   where
     n : ℕ
     n = bitsIn w
@@ -282,17 +282,17 @@ multiply-exact w a b idle t h1 h4 ab hb =
     two : 2 ≤ n
     two = omega arith
 
-    lasted : Idle → State → State
+    lasted : Ignored → State → State
     lasted i u = stepOf (wordOf code a b 0x5d i) u
 
-    last-zero : (i : Idle) (u : State) → b < length (u .file) → lasted i u .core .status .z ≡ zeroOf n (readAt (lasted i u .file) b)
+    last-zero : (i : Ignored) (u : State) → b < length (u .file) → lasted i u .core .status .z ≡ zeroOf n (readAt (lasted i u .file) b)
     last-zero i u h =
         let x : Inputs = inputsOf (wordOf code a b 0x5d i) u in
         ap (λ (s : Status). s .z) (word-status n code a b bits i 0x5d u h)
         ∙ subst (λ (k : ℕ). performOf 0x5d x .status .z ≡ zeroOf k (performOf 0x5d x .y)) bits (last-z x)
         ∙ ap (zeroOf n) (sym (word-y n code a b bits i 0x5d u h))
 
-    done : (i : Idle) (u : State) → b < length (u .file) → Reached steady n code a b A bits ab t refl hb (Product W (A % W) (t .core .q % W)) (lasted i u) → Multiplied n a b t (lasted i u)
+    done : (i : Ignored) (u : State) → b < length (u .file) → Reached steady n code a b A bits ab t refl hb (Product W (A % W) (t .core .q % W)) (lasted i u) → Multiplied n a b t (lasted i u)
     done i u h r =
         let bit : lasted i u .core .status .m ≡ signOf n (t .core .q) = r .holds .bit ∙ sym (sign-top n (t .core .q) (omega arith)) in
         record {
@@ -309,12 +309,12 @@ multiply-exact w a b idle t h1 h4 ab hb =
 -- the exact product, all in two's complement; every other register and all unselected bytes are as before. M is the multiplier's sign bit, and the
 -- rest of the status register is as before.
 pub signed-multiply-exact :
-    (w a b : ℕ) (idle : ℕ → Idle) (t : State) → 1 ≤ w → w ≤ 4 → a ≢ b → b < length (t .file) →
-    SignedMultiplied (bitsIn w) a b t (execs (signedMultiplyWords w a b idle) t)
+    (w a b : ℕ) (ignored : ℕ → Ignored) (t : State) → 1 ≤ w → w ≤ 4 → a ≢ b → b < length (t .file) →
+    SignedMultiplied (bitsIn w) a b t (execs (signedMultiplyWords w a b ignored) t)
 unfolding wordsOf execs twosComplement
-signed-multiply-exact w a b idle t h1 h4 ab hb =
+signed-multiply-exact w a b ignored t h1 h4 ab hb =
     all-steps twosComplement w a b t h1 h4 ab hb [] (SignedMultiplied n a b t)
-    (λ idle u r. done u (r .rest) (r .stays) (ended W (A % W) (top W (A % W)) (t .core .q % W) (view n b u) (r .holds))) idle
+    (λ ignored u r. done u (r .rest) (r .stays) (ended W (A % W) (top W (A % W)) (t .core .q % W) (view n b u) (r .holds))) ignored
   where
     n : ℕ
     n = bitsIn w

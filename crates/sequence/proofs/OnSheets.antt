@@ -24,7 +24,7 @@ use Rattle.run.specs.Run.{Sane, Ended, entering, ran}
 use Rattle.run.proofs.Laws.{each-ready, word-sound, execs-sane}
 use Rattle.run.proofs.Parts.{run-is, entering-sane, back}
 use Rattle.sequence.specs.Signed.{Fits}
-use Rattle.sequence.specs.Sequences.{Idle, Registers, Different, Unread, bitsIn, wordsOf as listed, multiplyWords, divideWords, signedMultiplyWords, signedDivideWords, singleDivideWords}
+use Rattle.sequence.specs.Sequences.{Ignored, Registers, Different, Unread, bitsIn, wordsOf as listed, multiplyWords, divideWords, signedMultiplyWords, signedDivideWords, singleDivideWords}
 use Rattle.sequence.specs.Results.{register, signedIn, longDividend, TooLarge, Multiplied, Divided, SignedMultiplied, SignedDivided}
 use Rattle.sequence.specs.Decimal.{DecimalOperation, additions, subtractions, Side, Side.at-A, Side.at-B, Layout, calculation, correctionAt, decimalWords, sumWords, differenceWords, facing, Summed, TakenAway, SumExact, DifferenceExact, Each}
 use Rattle.sequence.specs.Compare.{unsignedAtMost, Compared, Compares, Picks}
@@ -67,50 +67,50 @@ module _ (s file : List ℕ) (m : Machine) (start : ℕ) (call : Accepted s file
 
   -- MULTIPLY ON A SHEET. Where the multiply list of registers a and b stands in an accepted sheet, running it leaves the high half of the exact
   -- product in register b and the low half in Q, on one to four bytes, and all else as it was, but for Z and M as `multipliedStatus` has them.
-  pub sheet-multiplies : (w a b : ℕ) (idle : ℕ → Idle) → 1 ≤ w → w ≤ 4 → a ≢ b → Stands s start (multiplyWords w a b idle)
-      → Multiplied (bitsIn w) a b (entering file m) (handed (runOn s file m start (multiplyWords w a b idle)))
+  pub sheet-multiplies : (w a b : ℕ) (ignored : ℕ → Ignored) → 1 ≤ w → w ≤ 4 → a ≢ b → Stands s start (multiplyWords w a b ignored)
+      → Multiplied (bitsIn w) a b (entering file m) (handed (runOn s file m start (multiplyWords w a b ignored)))
   unfolding listed
-  sheet-multiplies w a b idle h1 h4 ab stands =
-      subst (λ (t : State). Multiplied (bitsIn w) a b (entering file m) t) (sym (run-leaves (multiplyWords w a b idle) stands))
-      (multiply-exact w a b idle (entering file m) h1 h4 ab (first-ready _ _ stands .b))
+  sheet-multiplies w a b ignored h1 h4 ab stands =
+      subst (λ (t : State). Multiplied (bitsIn w) a b (entering file m) t) (sym (run-leaves (multiplyWords w a b ignored) stands))
+      (multiply-exact w a b ignored (entering file m) h1 h4 ab (first-ready _ _ stands .b))
 
   -- SIGNED MULTIPLY ON A SHEET. Where the signed multiply list stands in an accepted sheet, running it leaves the two halves of the exact product in
   -- register b and Q, all in two's complement, and all else as it was, but for M, which is the sign bit of the multiplier.
-  pub sheet-multiplies-signed : (w a b : ℕ) (idle : ℕ → Idle) → 1 ≤ w → w ≤ 4 → a ≢ b → Stands s start (signedMultiplyWords w a b idle)
-      → SignedMultiplied (bitsIn w) a b (entering file m) (handed (runOn s file m start (signedMultiplyWords w a b idle)))
+  pub sheet-multiplies-signed : (w a b : ℕ) (ignored : ℕ → Ignored) → 1 ≤ w → w ≤ 4 → a ≢ b → Stands s start (signedMultiplyWords w a b ignored)
+      → SignedMultiplied (bitsIn w) a b (entering file m) (handed (runOn s file m start (signedMultiplyWords w a b ignored)))
   unfolding listed
-  sheet-multiplies-signed w a b idle h1 h4 ab stands =
-      subst (λ (t : State). SignedMultiplied (bitsIn w) a b (entering file m) t) (sym (run-leaves (signedMultiplyWords w a b idle) stands))
-      (signed-multiply-exact w a b idle (entering file m) h1 h4 ab (first-ready _ _ stands .b))
+  sheet-multiplies-signed w a b ignored h1 h4 ab stands =
+      subst (λ (t : State). SignedMultiplied (bitsIn w) a b (entering file m) t) (sym (run-leaves (signedMultiplyWords w a b ignored) stands))
+      (signed-multiply-exact w a b ignored (entering file m) h1 h4 ab (first-ready _ _ stands .b))
 
   -- DIVIDE ON A SHEET. With the selected bytes of register b zero and those of register a not, Q gets the exact quotient and register b the
   -- remainder, below the divisor; the status register is as `dividedStatus` has it.
-  pub sheet-divides : (w a b : ℕ) (idle : ℕ → Idle) → 1 ≤ w → w ≤ 4 → a ≢ b → Stands s start (divideWords w a b idle)
+  pub sheet-divides : (w a b : ℕ) (ignored : ℕ → Ignored) → 1 ≤ w → w ≤ 4 → a ≢ b → Stands s start (divideWords w a b ignored)
       → register (bitsIn w) a (entering file m) ≢ 0 → register (bitsIn w) b (entering file m) ≡ 0
-      → Divided (bitsIn w) a b (entering file m) (handed (runOn s file m start (divideWords w a b idle)))
+      → Divided (bitsIn w) a b (entering file m) (handed (runOn s file m start (divideWords w a b ignored)))
   unfolding listed
-  sheet-divides w a b idle h1 h4 ab stands hd hb =
-      subst (λ (t : State). Divided (bitsIn w) a b (entering file m) t) (sym (run-leaves (divideWords w a b idle) stands))
-      (divide-exact w a b idle (entering file m) h1 h4 ab (first-ready _ _ stands .b) (call .registers a) hd hb)
+  sheet-divides w a b ignored h1 h4 ab stands hd hb =
+      subst (λ (t : State). Divided (bitsIn w) a b (entering file m) t) (sym (run-leaves (divideWords w a b ignored) stands))
+      (divide-exact w a b ignored (entering file m) h1 h4 ab (first-ready _ _ stands .b) (call .registers a) hd hb)
 
   -- SIGNED DIVIDE ON A SHEET. With a divisor that is not zero in register D, zero in the selected bytes of register O, and a dividend of two halves in
   -- register R and Q whose quotient fits: register K gets the quotient, cut towards zero, and register R the remainder, all in two's complement.
-  pub sheet-divides-signed : (w : ℕ) (r : Registers) (idle : ℕ → Idle) (free : ℕ → Unread) → 1 ≤ w → w ≤ 4 → Different r → Stands s start (signedDivideWords w r idle free)
+  pub sheet-divides-signed : (w : ℕ) (r : Registers) (ignored : ℕ → Ignored) (free : ℕ → Unread) → 1 ≤ w → w ≤ 4 → Different r → Stands s start (signedDivideWords w r ignored free)
       → register (bitsIn w) (r .D) (entering file m) ≢ 0 → register (bitsIn w) (r .O) (entering file m) ≡ 0
       → Fits (bitsIn w) (quotZ (longDividend (bitsIn w) r (entering file m)) (signedIn (bitsIn w) (r .D) (entering file m)))
-      → SignedDivided (bitsIn w) (longDividend (bitsIn w) r (entering file m)) r (entering file m) (handed (runOn s file m start (signedDivideWords w r idle free)))
-  sheet-divides-signed w r idle free h1 h4 different stands hd ho fits =
-      subst (SignedDivided (bitsIn w) (longDividend (bitsIn w) r (entering file m)) r (entering file m)) (sym (run-leaves (signedDivideWords w r idle free) stands))
-      (signed-divide-exact w r idle free (entering file m) h1 h4 different (fit (signedDivideWords w r idle free) stands) sane hd ho fits)
+      → SignedDivided (bitsIn w) (longDividend (bitsIn w) r (entering file m)) r (entering file m) (handed (runOn s file m start (signedDivideWords w r ignored free)))
+  sheet-divides-signed w r ignored free h1 h4 different stands hd ho fits =
+      subst (SignedDivided (bitsIn w) (longDividend (bitsIn w) r (entering file m)) r (entering file m)) (sym (run-leaves (signedDivideWords w r ignored free) stands))
+      (signed-divide-exact w r ignored free (entering file m) h1 h4 different (fit (signedDivideWords w r ignored free) stands) sane hd ho fits)
 
   -- SIGNED DIVIDE, SINGLE LENGTH, ON A SHEET. A dividend in register x likewise, but for the most negative over -1.
-  pub sheet-divides-single : (w x : ℕ) (r : Registers) (load sign : Unread) (idle : ℕ → Idle) (free : ℕ → Unread) → 1 ≤ w → w ≤ 4 → Different r
-      → Stands s start (singleDivideWords w x r load sign idle free)
+  pub sheet-divides-single : (w x : ℕ) (r : Registers) (load sign : Unread) (ignored : ℕ → Ignored) (free : ℕ → Unread) → 1 ≤ w → w ≤ 4 → Different r
+      → Stands s start (singleDivideWords w x r load sign ignored free)
       → register (bitsIn w) (r .D) (entering file m) ≢ 0 → register (bitsIn w) (r .O) (entering file m) ≡ 0 → (TooLarge (bitsIn w) x r (entering file m) → ⊥)
-      → SignedDivided (bitsIn w) (signedIn (bitsIn w) x (entering file m)) r (entering file m) (handed (runOn s file m start (singleDivideWords w x r load sign idle free)))
-  sheet-divides-single w x r load sign idle free h1 h4 different stands hd ho large =
-      subst (SignedDivided (bitsIn w) (signedIn (bitsIn w) x (entering file m)) r (entering file m)) (sym (run-leaves (singleDivideWords w x r load sign idle free) stands))
-      (single-divide-exact w x r load sign idle free (entering file m) h1 h4 different (fit (singleDivideWords w x r load sign idle free) stands) sane hd ho large)
+      → SignedDivided (bitsIn w) (signedIn (bitsIn w) x (entering file m)) r (entering file m) (handed (runOn s file m start (singleDivideWords w x r load sign ignored free)))
+  sheet-divides-single w x r load sign ignored free h1 h4 different stands hd ho large =
+      subst (SignedDivided (bitsIn w) (signedIn (bitsIn w) x (entering file m)) r (entering file m)) (sym (run-leaves (singleDivideWords w x r load sign ignored free) stands))
+      (single-divide-exact w x r load sign ignored free (entering file m) h1 h4 different (fit (singleDivideWords w x r load sign ignored free) stands) sane hd ho large)
 
   -- words, and then others: those before can be run, and those after on what they leave
   module _ (ws vs : List Word) (stands : Stands s start (ws ++ vs)) where

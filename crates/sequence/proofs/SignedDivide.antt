@@ -18,7 +18,7 @@ use Rattle.sheet.proofs.Positions.All.{none, more}
 use Rattle.run.specs.Run.{Sane}
 use Rattle.run.proofs.Laws.{execs-sane}
 use Rattle.sequence.specs.Signed.{Fits}
-use Rattle.sequence.specs.Sequences.{Idle, Registers, Different, Unread, bitsIn, codeOf, wordsOf, times, correctionWords, signedDivideOpcodes, signedDivideWords}
+use Rattle.sequence.specs.Sequences.{Ignored, Registers, Different, Unread, bitsIn, codeOf, wordsOf, times, correctionWords, signedDivideOpcodes, signedDivideWords}
 use Rattle.sequence.specs.Results.{register, signedIn, longDividend, SignedDivided}
 use Rattle.sequence.proofs.Lists.{bits-of-bytes}
 use Rattle.sequence.proofs.SignedSteps.{signed-steps}
@@ -35,9 +35,9 @@ rear [] ys a = a
 rear (x ∷ xs) ys (more p a) = rear xs ys a
 
 -- the registers that are written are in the file
-remainder-in : (w : ℕ) (r : Registers) (idle : ℕ → Idle) (k : ℕ) → All (WordReady k) (wordsOf (codeOf w) (r .D) (r .R) (signedDivideOpcodes w) idle) → r .R < k
+remainder-in : (w : ℕ) (r : Registers) (ignored : ℕ → Ignored) (k : ℕ) → All (WordReady k) (wordsOf (codeOf w) (r .D) (r .R) (signedDivideOpcodes w) ignored) → r .R < k
 unfolding wordsOf
-remainder-in w r idle k (more p a) = p .y
+remainder-in w r ignored k (more p a) = p .y
 
 quotient-in : (w : ℕ) (r : Registers) (free : ℕ → Unread) (k : ℕ) → All (WordReady k) (correctionWords w r free) → r .K < k
 quotient-in w r free k (more _ (more _ (more _ (more _ (more _ (more p a)))))) = p .y
@@ -48,20 +48,20 @@ quotient-in w r free k (more _ (more _ (more _ (more _ (more _ (more p a)))))) =
 -- divisor plus remainder is the dividend, the remainder is smaller in size than the divisor, and is zero or has the dividend's sign. Every other
 -- register and all unselected bytes are as before; Q and the status register are as `uncorrected` and `signedDividedStatus` have them.
 pub signed-divide-exact :
-    (w : ℕ) (r : Registers) (idle : ℕ → Idle) (free : ℕ → Unread) (t : State) → 1 ≤ w → w ≤ 4 → Different r →
-    All (WordReady (length (t .file))) (signedDivideWords w r idle free) → Sane t → register (bitsIn w) (r .D) t ≢ 0 → register (bitsIn w) (r .O) t ≡ 0 →
+    (w : ℕ) (r : Registers) (ignored : ℕ → Ignored) (free : ℕ → Unread) (t : State) → 1 ≤ w → w ≤ 4 → Different r →
+    All (WordReady (length (t .file))) (signedDivideWords w r ignored free) → Sane t → register (bitsIn w) (r .D) t ≢ 0 → register (bitsIn w) (r .O) t ≡ 0 →
     Fits (bitsIn w) (quotZ (longDividend (bitsIn w) r t) (signedIn (bitsIn w) (r .D) t)) →
-    SignedDivided (bitsIn w) (longDividend (bitsIn w) r t) r t (execs (signedDivideWords w r idle free) t)
-signed-divide-exact w r idle free t h1 h4 different ready sane hD hO fit =
+    SignedDivided (bitsIn w) (longDividend (bitsIn w) r t) r t (execs (signedDivideWords w r ignored free) t)
+signed-divide-exact w r ignored free t h1 h4 different ready sane hD hO fit =
     subst (SignedDivided n (longDividend n r t) r t) (sym (execs-append steps (correctionWords w r free) t))
     (result n r t (omega arith) (omega arith) (omega arith) different (sane .file (r .D)) (sane .file (r .O)) hO (pos-of-ne-zero hD) fit u z
-    (λ E δ s d hδ hs o. signed-steps w (r .D) (r .R) idle t E δ s h1 h4 (different .divisor-remainder) file-r (sane .file (r .D)) d hδ hs o) good whole)
+    (λ E δ s d hδ hs o. signed-steps w (r .D) (r .R) ignored t E δ s h1 h4 (different .divisor-remainder) file-r (sane .file (r .D)) d hδ hs o) good whole)
   where
     n : ℕ
     n = bitsIn w
 
     steps : List Word
-    steps = wordsOf (codeOf w) (r .D) (r .R) (signedDivideOpcodes w) idle
+    steps = wordsOf (codeOf w) (r .D) (r .R) (signedDivideOpcodes w) ignored
 
     u : State
     u = execs steps t
@@ -70,7 +70,7 @@ signed-divide-exact w r idle free t h1 h4 different ready sane hD hO fit =
     z = execs (correctionWords w r free) u
 
     file-r : r .R < length (t .file)
-    file-r = remainder-in w r idle (length (t .file)) (front steps (correctionWords w r free) ready)
+    file-r = remainder-in w r ignored (length (t .file)) (front steps (correctionWords w r free) ready)
 
     file-k : r .K < length (t .file)
     file-k = quotient-in w r free (length (t .file)) (rear steps (correctionWords w r free) ready)

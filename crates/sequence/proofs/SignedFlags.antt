@@ -91,14 +91,14 @@ module _ (code : ℕ) (r : Registers) (free : ℕ → Unread) (u : State) (good 
   link-is = ap (λ (v : ℕ). xor v 0) (relational carryMode (withV 0 s₁) (good-v 0 s₁ (omega arith) good₁) .2) ∙ xor-none _ (flags _ _ (xor-lt (s₀ .n) 0) (zero-lt n _ (s₀ .s) (good .s)))
 
   abbrev last₂ : State → State
-  last₂ t = stepOf (looking code (r .D) (r .R) 0x5a (free 4 .idle)) (stepOf (looking code (free 3 .a) (r .R) 0x29 (free 3 .idle)) t)
+  last₂ t = stepOf (looking code (r .D) (r .R) 0x5a (free 4 .ignored)) (stepOf (looking code (free 3 .a) (r .R) 0x29 (free 3 .ignored)) t)
 
-  pub five : execs (looking code (r .O) (r .R) 0x5a (free 0 .idle) ∷ onStatus 18 (free 1 .a) (free 1 .b) 0x6d (free 1 .idle) ∷ onStatus 15 (free 2 .a) (free 2 .b) 0x7e (free 2 .idle)
-      ∷ looking code (free 3 .a) (r .R) 0x29 (free 3 .idle) ∷ looking code (r .D) (r .R) 0x5a (free 4 .idle) ∷ []) u
+  pub five : execs (looking code (r .O) (r .R) 0x5a (free 0 .ignored) ∷ onStatus 18 (free 1 .a) (free 1 .b) 0x6d (free 1 .ignored) ∷ onStatus 15 (free 2 .a) (free 2 .b) 0x7e (free 2 .ignored)
+      ∷ looking code (free 3 .a) (r .R) 0x29 (free 3 .ignored) ∷ looking code (r .D) (r .R) 0x5a (free 4 .ignored) ∷ []) u
       ≡ kept (flagged n (at (r .O)) (at (r .D)) (at (r .R)) q s₀)
   unfolding execs stepOf performOf SDIVLAST2 putStatus EXTBIT-STAT down
   five =
-      ap (λ (s : Status). last₂ (stepOf (onStatus 15 (free 2 .a) (free 2 .b) 0x7e (free 2 .idle)) (kept s))) (v-reset s₁ good₁)
+      ap (λ (s : Status). last₂ (stepOf (onStatus 15 (free 2 .a) (free 2 .b) 0x7e (free 2 .ignored)) (kept s))) (v-reset s₁ good₁)
       ∙ ap (λ (l : ℕ). last₂ (kept (withL l (withV 0 s₁)))) link-is
 
 -- ---- what that is on numbers

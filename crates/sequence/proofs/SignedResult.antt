@@ -62,7 +62,7 @@ pub tail-is :
     execs (correctionWords w r free) u ≡ tail (selected (codeOf w)) r u
 unfolding execs
 tail-is w r free u good hk dk rk =
-    ap (execs (wordOf (codeOf w) (free 5 .a) (r .K) 0x05 (free 5 .idle) ∷ wordOf (codeOf w) (free 6 .a) (r .K) 0x59 (free 6 .idle) ∷ wordOf (codeOf w) (r .D) (r .R) 0x58 (free 7 .idle) ∷ []))
+    ap (execs (wordOf (codeOf w) (free 5 .a) (r .K) 0x05 (free 5 .ignored) ∷ wordOf (codeOf w) (free 6 .a) (r .K) 0x59 (free 6 .ignored) ∷ wordOf (codeOf w) (r .D) (r .R) 0x58 (free 7 .ignored) ∷ []))
     (five (codeOf w) r free u good)
     ∙ three (codeOf w) r free (u .file) (record { q = u .core .q; status = flags (selected (codeOf w)) r u }) hk dk rk
 

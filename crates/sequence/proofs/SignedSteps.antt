@@ -16,7 +16,7 @@ use Rattle.divide.specs.Steps.{formed, upshifted, signQ, signedBit}
 use Rattle.divide.specs.Divide.{SDIVFIRST, SDIVSTEP, SDIVLAST1}
 use Rattle.chip.specs.Glossary.{performOf}
 use Rattle.chip.specs.Lists.{State, readAt, inputsOf, stepOf, execs}
-use Rattle.sequence.specs.Sequences.{Idle, bitsIn, codeOf, wordOf, wordsOf, signedDivideOpcodes}
+use Rattle.sequence.specs.Sequences.{Ignored, bitsIn, codeOf, wordOf, wordsOf, signedDivideOpcodes}
 use Rattle.sequence.specs.Results.{register, lowQ, Untouched}
 use Rattle.sequence.proofs.Lists.{Work, view, before, after, Acts, acts-from, carried-back, Reached, start, next, repeated, in-file, word-status, word-y, merged-low, merged-high, bits-of-bytes, sign-top, not-cut, cut-sum, halved}
 use Rattle.sequence.proofs.TopBit.{top}
@@ -116,18 +116,18 @@ unfolding signedLast
 last-s W A s = refl
 
 pub signed-steps :
-    (w a b : ℕ) (idle : ℕ → Idle) (t : State) (E δ r : ℕ) → 1 ≤ w → w ≤ 4 → a ≢ b → b < length (t .file) → readAt (t .file) a < 2 ^ 32 →
+    (w a b : ℕ) (ignored : ℕ → Ignored) (t : State) (E δ r : ℕ) → 1 ≤ w → w ≤ 4 → a ≢ b → b < length (t .file) → readAt (t .file) a < 2 ^ 32 →
     Divisor (2 ^ bitsIn w) (register (bitsIn w) a t) E δ → δ < 2 → r < 2 * E → Out (2 ^ bitsIn w) E r (register (bitsIn w) b t) →
-    Stepped (bitsIn w) a b E δ (r * 2 ^ bitsIn w + lowQ (bitsIn w) t) t (execs (wordsOf (codeOf w) a b (signedDivideOpcodes w) idle) t)
+    Stepped (bitsIn w) a b E δ (r * 2 ^ bitsIn w + lowQ (bitsIn w) t) t (execs (wordsOf (codeOf w) a b (signedDivideOpcodes w) ignored) t)
 unfolding wordsOf execs
-signed-steps w a b idle t E δ r h1 h4 ab hb ha d hδ hr o =
+signed-steps w a b ignored t E δ r h1 h4 ab hb ha d hδ hr o =
     repeated steady n code a b A bits ab t refl hb 0x50 FlagM (signedStep W D) (step-acts n A fits) Going (λ k s p. flag-m W D E δ X k hδ s (p .0))
     (λ k s p. (step-left W D E δ X d hδ k s (p .0), step-s W D s ∙ p .1)) (0x51 ∷ []) (Stepped n a b E δ X t)
-    (λ idle u p. finished (idle 0) u p) (n - 1) (λ k. idle (suc k)) _
+    (λ ignored u p. finished (ignored 0) u p) (n - 1) (λ k. ignored (suc k)) _
     (next steady n code a b A bits ab t refl hb 0x4e (λ s. Unit) (signedFirst W D) (first-acts n A fits) (λ s. s ≡ view n b t) (Going (n - 1)) (λ s e. tt)
     (λ s e. subst (λ (v : Work). Going (n - 1) (signedFirst W D v)) (sym e)
     (first-left (n - 1) W D E δ r pow d hδ hr (view n b t) (mod-lt (t .core .q) (pow-pos n)) o, first-s W D (view n b t)))
-    (idle 0) t (start steady n code a b A bits ab t refl hb (λ s. s ≡ view n b t) refl))
+    (ignored 0) t (start steady n code a b A bits ab t refl hb (λ s. s ≡ view n b t) refl))
   where
     n : ℕ
     n = bitsIn w
@@ -159,10 +159,10 @@ signed-steps w a b idle t E δ r h1 h4 ab hb ha d hδ hr o =
     Going : ℕ → Work → Type 0
     Going k s = Left W D E δ X k s × (s .S ≡ top W (register n b t))
 
-    lasted : Idle → State → State
+    lasted : Ignored → State → State
     lasted i u = stepOf (wordOf code a b 0x51 i) u
 
-    finished : (i : Idle) (u : State) → Reached steady n code a b A bits ab t refl hb (Going 0) u → Stepped n a b E δ X t (lasted i u)
+    finished : (i : Ignored) (u : State) → Reached steady n code a b A bits ab t refl hb (Going 0) u → Stepped n a b E δ X t (lasted i u)
     finished i u p =
         let z : Reached steady n code a b A bits ab t refl hb (λ s. Done W D E δ X s × (s .S ≡ top W (register n b t))) (lasted i u) =
         next steady n code a b A bits ab t refl hb 0x51 FlagM (signedLast W D) (last-acts n A fits) (Going 0) _ (λ s q. flag-m W D E δ X 0 hδ s (q .0))
@@ -170,7 +170,7 @@ signed-steps w a b idle t E δ r h1 h4 ab hb ha d hδ hr o =
         in
         record { rest = z .rest; stays = z .stays; done = z .holds .0; dividend-sign = z .holds .1; remainder-sign = sign i u (in-file steady n code a b A bits ab t refl hb u (p .rest)) (p .rest .others a ab) }
       where
-        sign : (i : Idle) (u : State) → b < length (u .file) → readAt (u .file) a ≡ A → lasted i u .core .status .n ≡ top W (register n b (lasted i u))
+        sign : (i : Ignored) (u : State) → b < length (u .file) → readAt (u .file) a ≡ A → lasted i u .core .status .n ≡ top W (register n b (lasted i u))
         sign i u h e =
             let x : Inputs = inputsOf (wordOf code a b 0x51 i) u in
             ap (λ (s : Status). s .n) (word-status n code a b bits i 0x51 u h)

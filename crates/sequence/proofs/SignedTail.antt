@@ -79,11 +79,11 @@ module _ (code : ℕ) (r : Registers) (free : ℕ → Unread) (file : List ℕ) 
   ended a b = state (storeAt found (r .R) (remainder n s a b)) (record { q = core .q; status = withC (carry n s a b) (counted n s passed) })
 
   pub three :
-      execs (wordOf code (free 5 .a) (r .K) 0x05 (free 5 .idle) ∷ wordOf code (free 6 .a) (r .K) 0x59 (free 6 .idle) ∷ wordOf code (r .D) (r .R) 0x58 (free 7 .idle) ∷ []) (state file core)
+      execs (wordOf code (free 5 .a) (r .K) 0x05 (free 5 .ignored) ∷ wordOf code (free 6 .a) (r .K) 0x59 (free 6 .ignored) ∷ wordOf code (r .D) (r .R) 0x58 (free 7 .ignored) ∷ []) (state file core)
       ≡ ended (readAt file (r .D)) (readAt file (r .R))
   unfolding execs stepOf performOf PASS-Q QUOCORR REMCORR
   three =
-      ap (λ (b : ℕ). stepOf (wordOf code (r .D) (r .R) 0x58 (free 7 .idle)) (before b)) (read-same file (r .K) passed hk)
+      ap (λ (b : ℕ). stepOf (wordOf code (r .D) (r .R) 0x58 (free 7 .ignored)) (before b)) (read-same file (r .K) passed hk)
       ∙ ap₂ ended (elsewhere (r .D) dk) (elsewhere (r .R) rk)
 
 -- ---- on numbers

@@ -26,7 +26,7 @@ use Rattle.sheet.proofs.Positions.All.{more}
 use Rattle.run.specs.Run.{Sane}
 use Rattle.run.proofs.Laws.{step-sane}
 use Rattle.sequence.specs.Signed.{signed, Fits}
-use Rattle.sequence.specs.Sequences.{Idle, Registers, Different, Unread, bitsIn, codeOf, wordOf, looking, signedDivideWords, singleDivideWords}
+use Rattle.sequence.specs.Sequences.{Ignored, Registers, Different, Unread, bitsIn, codeOf, wordOf, looking, signedDivideWords, singleDivideWords}
 use Rattle.sequence.specs.Results.{register, signedIn, longDividend, TooLarge, signedDividedStatus, SignedDivided}
 use Rattle.sequence.proofs.Integers.{sub-same, signed-long}
 use Rattle.sequence.proofs.Lists.{merged-low, merged-high, bits-of-bytes, sign-top, not-cut, halved}
@@ -42,7 +42,7 @@ opened n x r t =
     (record { q = merged n (readAt (t .file) x) (t .core .q); status = withZ (1 - signOf n (readAt (t .file) x)) (zeroSign n (readAt (t .file) x) (t .core .status)) })
 
 open-is : (code x : ℕ) (r : Registers) (load sign : Unread) (t : State)
-    → stepOf (wordOf code (sign .a) (r .R) 0x3d (sign .idle)) (stepOf (looking code x (load .b) 0x06 (load .idle)) t) ≡ opened (selected code) x r t
+    → stepOf (wordOf code (sign .a) (r .R) 0x3d (sign .ignored)) (stepOf (looking code x (load .b) 0x06 (load .ignored)) t) ≡ opened (selected code) x r t
 unfolding stepOf performOf loadQ SIGN
 open-is code x r load sign t = refl
 
@@ -181,13 +181,13 @@ module _ (n x : ℕ) (r : Registers) (t z : State) (hn : n ≤ 32) (different : 
 -- SIGNED DIVIDE, SINGLE LENGTH. With the dividend in register x instead, which may be any register, the same list after LOADQ-A and SIGN divides it by
 -- register D, for every divisor but zero, and every dividend but the most negative over -1, which does not fit.
 pub single-divide-exact :
-    (w x : ℕ) (r : Registers) (load sign : Unread) (idle : ℕ → Idle) (free : ℕ → Unread) (t : State) → 1 ≤ w → w ≤ 4 → Different r →
-    All (WordReady (length (t .file))) (singleDivideWords w x r load sign idle free) → Sane t → register (bitsIn w) (r .D) t ≢ 0 → register (bitsIn w) (r .O) t ≡ 0 →
+    (w x : ℕ) (r : Registers) (load sign : Unread) (ignored : ℕ → Ignored) (free : ℕ → Unread) (t : State) → 1 ≤ w → w ≤ 4 → Different r →
+    All (WordReady (length (t .file))) (singleDivideWords w x r load sign ignored free) → Sane t → register (bitsIn w) (r .D) t ≢ 0 → register (bitsIn w) (r .O) t ≡ 0 →
     (TooLarge (bitsIn w) x r t → ⊥) →
-    SignedDivided (bitsIn w) (signedIn (bitsIn w) x t) r t (execs (singleDivideWords w x r load sign idle free) t)
+    SignedDivided (bitsIn w) (signedIn (bitsIn w) x t) r t (execs (singleDivideWords w x r load sign ignored free) t)
 unfolding execs
-single-divide-exact w x r load sign idle free t h1 h4 different (more p (more q ready)) sane hD hO large =
-    go (stepOf (wordOf (codeOf w) (sign .a) (r .R) 0x3d (sign .idle)) (stepOf (looking (codeOf w) x (load .b) 0x06 (load .idle)) t))
+single-divide-exact w x r load sign ignored free t h1 h4 different (more p (more q ready)) sane hD hO large =
+    go (stepOf (wordOf (codeOf w) (sign .a) (r .R) 0x3d (sign .ignored)) (stepOf (looking (codeOf w) x (load .b) 0x06 (load .ignored)) t))
     (open-is (codeOf w) x r load sign t ∙ ap (λ (k : ℕ). opened k x r t) (bits-of-bytes w h1 h4))
     (step-sane (length (t .file)) _ _ q (step-sane (length (t .file)) _ t p sane))
   where
@@ -195,7 +195,7 @@ single-divide-exact w x r load sign idle free t h1 h4 different (more p (more q 
     n = bitsIn w
 
     words : List Word
-    words = signedDivideWords w r idle free
+    words = signedDivideWords w r ignored free
 
     alike : (k : ℕ) → k ≢ r .R → register n k (opened n x r t) ≡ register n k t
     alike k e = ap (λ (v : ℕ). v % 2 ^ n) (same n x r t t (omega arith) different (q .y) k e)
@@ -205,7 +205,7 @@ single-divide-exact w x r load sign idle free t h1 h4 different (more p (more q 
         moved n x r t (execs words o) (omega arith) different (q .y) (signedIn n x t)
         (subst (λ (v : State). SignedDivided n (signedIn n x t) r v (execs words o)) e
         (subst (λ (X : ℤ). SignedDivided n X r o (execs words o)) dividend
-        (signed-divide-exact w r idle free o h1 h4 different (subst (λ (k : ℕ). All (WordReady k) words) (sym size) ready) good
+        (signed-divide-exact w r ignored free o h1 h4 different (subst (λ (k : ℕ). All (WordReady k) words) (sym size) ready) good
         (λ d. hD (sym (alike (r .D) (different .divisor-remainder)) ∙ sym (ap (register n (r .D)) e) ∙ d))
         (ap (register n (r .O)) e ∙ alike (r .O) (different .zero-remainder) ∙ hO)
         (subst (Fits n) (sym (ap₂ quotZ dividend divisor)) (fits n (readAt (t .file) x) (readAt (t .file) (r .D)) (omega arith) (pos-of-ne-zero hD) large)))))

@@ -16,7 +16,7 @@ use Rattle.sheet.specs.Sheet.{wordAt, executionsOf, WordReady}
 use Rattle.sheet.proofs.Positions.{executions-length, executions-next}
 use Rattle.sheet.proofs.Table.{ready}
 use Rattle.run.specs.declared.StepAnswer.{StepAnswer}
-use Rattle.run.specs.Step.{halted, idle, performedOn}
+use Rattle.run.specs.Step.{halted, noWord, performedOn}
 use Rattle.run.proofs.Laws.{word-ready}
 use Rattle.run.proofs.Stepping.{step-refused, step-is, promised}
 use borrow.Author.Needs.{needs}
@@ -53,7 +53,7 @@ returns-2 c =
     let past : length (executionsOf s) ≤ a .start = omega (arith, x .executions .ensures, c .before .before .before .if1 .taken) in
     promised s (now (a .file)) (a .machine) (a .start) (read-small (now (a .file)) (λ r. k .before .slice-known .given r .fits)) (omega (arith, z .good .1 .1 .0)) _
     (ap (λ (y : StepAnswer). halted y (now (a .file)))
-    (c .no-word2 .ensures ∙ ap (idle Done 0) (c .before .leave .ensures ∙ ap handedBack (c .before .before .enter .ensures)))
+    (c .no-word2 .ensures ∙ ap (noWord Done 0) (c .before .leave .ensures ∙ ap handedBack (c .before .before .enter .ensures)))
     ∙ step-is s (now (a .file)) (a .machine) (a .start) _ (sym (k .check-start .ensures .0) ∙ x .before .enum-told .given .1)
     (drop-of-length-le (executionsOf s) past))
 
