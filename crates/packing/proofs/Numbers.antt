@@ -7,8 +7,8 @@ use Prim.Native.Nat.{ℕ, zero, suc, _+_, _-_, _*_, _/_, _%_, _^_, _<_}
 use native.Mathlib.Omega.{arith}
 use native.Mathlib.Decide.{decLt}
 use native.Mathlib.Nat.{mod-eq-of-lt}
-use borrow.Author.Tests.{ltb-false, lt-ltb, le-ltb, lt-leb, le-leb, leb-false, ne-eqb}
-use lib.Dec.{eqb, ltb, leb}
+use borrow.Author.Tests.{ltb-false, le-ltb, ne-eqb}
+use lib.Dec.{eqb, ltb}
 use Rattle.bits.specs.Bits.{choose}
 use lib.Pow.{split, mod-pow-add}
 use lib.ListN.{List·getD-eq-default}
@@ -16,7 +16,7 @@ use Rattle.chip.specs.declared.Word.{Word}
 use Rattle.chip.specs.Glossary.{glossary}
 use Rattle.chip.specs.Glossary.Page.{no-page}
 use Rattle.chip.specs.Single.{noPage, lacksPage, outOfRange}
-use Rattle.packing.specs.Packing.{number6, fieldsOf, spareOf, packedNumber, bytes6, some, registerFields, tooLarge, InRange}
+use Rattle.packing.specs.Packing.{differ, number6, fieldsOf, spareOf, packedNumber, bytes6, some, registerFields, tooLarge, InRange}
 
 -- ---- ranges
 pub or-left : (a b : Bool) → (a || b) ≡ false → a ≡ false
@@ -40,42 +40,10 @@ page-small n h = go (decLt n 128)
 pub some-three : (p : ℕ → Bool) (x y z : ℕ) → (p x || p y || p z) ≡ some p (x ∷ y ∷ z ∷ [])
 some-three p x y z = simp (or-assoc, or-false)
 
--- a number is below n where n is not at most that number
-below-test : (n x : ℕ) → ltb x n ≡ not (leb n x)
-below-test n x = go (decLt x n)
-  where
-    go : Dec (x < n) → ltb x n ≡ not (leb n x)
-    go (yes h) = rw (lt-ltb x n h, lt-leb n x h) refl
-    go (no h) = rw (le-ltb x n (omega arith), le-leb n x (omega arith)) refl
-
--- Y below n, and 0 where k is 0: neither left idle nor at n or more. Where a is below n, so is 0
-pub fits-test : (n a b y k : ℕ)
-    → (ltb a n && ltb b n && ltb y (choose k 1 n)) ≡ (not (eqb k 0 && not (eqb y 0)) && not (some (leb n) (a ∷ b ∷ y ∷ [])))
-fits-test n a b y zero = rw (below-test n a, below-test n b) (idle-or-not y)
-  where
-    both : (p q r z : Bool) → (p ≡ false → z ≡ true → r ≡ false) → (not p && not q && z) ≡ (not (not z) && not (p || (q || (r || false))))
-    both true q r true h = refl
-    both true q r false h = refl
-    both false true r true h = refl
-    both false true r false h = refl
-    both false false true true h = absurd (true≢false (h refl refl))
-    both false false true false h = refl
-    both false false false true h = refl
-    both false false false false h = refl
-
-    idle-or-not : (y : ℕ) → (not (leb n a) && not (leb n b) && ltb y 1) ≡ (not (not (eqb y 0)) && not (some (leb n) (a ∷ b ∷ y ∷ [])))
-    idle-or-not zero = both (leb n a) (leb n b) (leb n 0) true (λ p z. lt-leb n 0 (omega (arith, leb-false n a p)))
-    idle-or-not (suc y) =
-        rw (le-ltb (suc y) 1 (omega arith), ne-eqb (suc y) 0 (λ (e : suc y ≡ 0). omega arith))
-        (both (leb n a) (leb n b) (leb n (suc y)) false (λ p z. absurd (true≢false (sym z))))
-fits-test n a b y (suc k) =
-    rw (below-test n a, below-test n b, below-test n y, ne-eqb (suc k) 0 (λ (e : suc k ≡ 0). omega arith)) (each (leb n a) (leb n b) (leb n y))
-  where
-    each : (p q r : Bool) → (not p && not q && not r) ≡ not (p || (q || (r || false)))
-    each true q r = refl
-    each false true r = refl
-    each false false true = refl
-    each false false false = refl
+-- Y's field is left idle where something of it is
+pub idle-differs : (write y : ℕ) → differ (choose write y 0) 0 ≡ (eqb write 0 && differ y 0)
+idle-differs zero y = refl
+idle-differs (suc k) y = ap (λ (t : Bool). t && differ y 0) (sym (ne-eqb (suc k) 0 (λ (e : suc k ≡ 0). omega arith)))
 
 -- none of the numbers passes the test
 pub data Every (p : ℕ → Bool) : List ℕ → Type 0 where

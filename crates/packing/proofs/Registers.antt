@@ -21,6 +21,13 @@ use Rattle.packing.specs.Registers.{only, isIn, common, sourcesOf, desti
 some : (x : ℕ) → 0 < x → differ x 0 ≡ true
 some x h = ap not (ne-eqb x 0 (λ (e : x ≡ 0). omega arith))
 
+-- a union is empty where both are
+pub or-differs : (x y : ℕ) → differ (bitOr x y) 0 ≡ (differ x 0 || differ y 0)
+or-differs zero zero = refl
+or-differs zero (suc y) = some (bitOr 0 (suc y)) (omega (arith, or-add-and 0 (suc y), and-le-l 0 (suc y))) ∙ sym (some (suc y) (omega arith))
+or-differs (suc x) y =
+    some (bitOr (suc x) y) (omega (arith, or-add-and (suc x) y, and-le-r (suc x) y)) ∙ sym (ap (λ (b : Bool). b || differ y 0) (some (suc x) (omega arith)))
+
 pub in-or : (s t r : ℕ) → isIn (bitOr s t) r ≡ (isIn s r || isIn t r)
 unfolding isIn
 in-or s t r = ap (λ (x : ℕ). eqb x 1) (bit-or r s t) ∙ flags (bitOf r s) (bitOf r t) (bit-lt r s) (bit-lt r t)
@@ -48,7 +55,7 @@ common-none s t r e f g =
 -- what a union has in common, of sets of 64 registers
 pub common-or : (s t u : ℕ) → s < 2 ^ 64 → t < 2 ^ 64 → u < 2 ^ 64 → common (bitOr s t) u ≡ (common s u || common t u)
 unfolding common
-common-or s t u hs ht hu = ap (λ (x : ℕ). differ x 0) spread ∙ apart (bitAnd s u) (bitAnd t u)
+common-or s t u hs ht hu = ap (λ (x : ℕ). differ x 0) spread ∙ or-differs (bitAnd s u) (bitAnd t u)
   where
     each : (x y z : ℕ) → min (max x y) z ≡ max (min x z) (min y z)
     each x y z = omega arith
@@ -59,12 +66,6 @@ common-or s t u hs ht hu = ap (λ (x : ℕ). differ x 0) spread ∙ apart (bitAn
         (or-lt 64 (bitAnd s u) (bitAnd t u) (and-lt 64 s u hs hu) (and-lt 64 t u ht hu))
         (λ i l. bit-and i (bitOr s t) u ∙ ap (λ (x : ℕ). min x (bitOf i u)) (bit-or i s t) ∙ each (bitOf i s) (bitOf i t) (bitOf i u)
         ∙ sym (bit-or i (bitAnd s u) (bitAnd t u) ∙ ap₂ max (bit-and i s u) (bit-and i t u)))
-
-    apart : (x y : ℕ) → differ (bitOr x y) 0 ≡ (differ x 0 || differ y 0)
-    apart zero zero = refl
-    apart zero (suc y) = some (bitOr 0 (suc y)) (omega (arith, or-add-and 0 (suc y), and-le-l 0 (suc y))) ∙ sym (some (suc y) (omega arith))
-    apart (suc x) y =
-        some (bitOr (suc x) y) (omega (arith, or-add-and (suc x) y, and-le-r (suc x) y)) ∙ sym (ap (λ (b : Bool). b || differ y 0) (some (suc x) (omega arith)))
 
 -- unions of sets of 64 registers
 pub union-assoc : (s t u : ℕ) → s < 2 ^ 64 → t < 2 ^ 64 → u < 2 ^ 64 → bitOr (bitOr s t) u ≡ bitOr s (bitOr t u)

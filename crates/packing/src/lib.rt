@@ -3,7 +3,6 @@ use chip::Word;
 use reasons::Check;
 use reasons::Reason;
 ghost use mathlib.Core.Path.{_≡_};
-ghost use mathlib.Core.Bool.{not, _&&_};
 ghost use mathlib.Core.List.{_∷_, _++_};
 ghost use Prim.Native.Nat.{_+_, _*_, _%_, _^_, _<_, _≤_};
 ghost use lib.ListN.{length, drop};
@@ -78,28 +77,21 @@ pub fn too_large(w: Word) -> bool
         | (1 < w.write)
 }
 
+// The bits that are left idle: Y's in a word that does not write, else none. The check of a sheet takes them together with the spare ones.
+pub fn idle_y(w: Word) -> u32
+    ensures { λ r. ⌜ r ≡ choose (w .write) (w .y) 0 ⌝ }
+{
+    if w.write == 0 {
+        return w.y;
+    }
+    0
+}
+
 // Whether Y's field is left idle: not 0 in a word that does not write. Public for the crates above.
 pub fn left_idle(w: Word) -> bool
     ensures { λ r. ⌜ r ≡ leftIdle w ⌝ }
 {
-    (w.write == 0) & (w.y != 0)
-}
-
-// What Y's field has to be below: n, and 1 where the word does not write.
-fn below_y(n: u32, write: u32) -> u32
-    ensures { λ r. ⌜ r ≡ choose write 1 n ⌝ }
-{
-    if write == 0 {
-        return 1;
-    }
-    n
-}
-
-// Whether Y's field is not left idle and no register field holds n or more: both at once, as the check of a sheet asks of every word.
-pub fn fits_file(n: u32, w: Word) -> bool
-    ensures { λ r. ⌜ r ≡ (not (leftIdle w) && not (some (leb n) (registerFields w))) ⌝ }
-{
-    (w.a < n) & (w.b < n) & (w.y < below_y(n, w.write))
+    idle_y(w) != 0
 }
 
 // The number of a word's fields.

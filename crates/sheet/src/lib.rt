@@ -265,7 +265,9 @@ fn sound(v: u64, n: u32) -> bool
     ensures { λ r. ⌜ r ≡ noneHold (numberRows v n 0) ⌝ }
 {
     let w = packing::fields(v);
-    (v % 32 == 0) & !chip::lacks_page(w.opcode) & packing::fits_file(n, w)
+    (v % 32 | packing::idle_y(w) as u64 == 0)
+        & !chip::lacks_page(w.opcode)
+        & !packing::names_from(n, w)
 }
 
 // Whether no word has a fault. Nearly every sheet is sound, and this loop has one branch a word.
