@@ -40,7 +40,7 @@ page-small n h = go (decLt n 128)
 pub some-three : (p : ℕ → Bool) (x y z : ℕ) → (p x || p y || p z) ≡ some p (x ∷ y ∷ z ∷ [])
 some-three p x y z = simp (or-assoc, or-false)
 
--- Y's field is left idle where something of it is
+-- a field is left idle where bits of it are
 pub idle-differs : (write y : ℕ) → differ (choose write y 0) 0 ≡ (eqb write 0 && differ y 0)
 idle-differs zero y = refl
 idle-differs (suc k) y = ap (λ (t : Bool). t && differ y 0) (sym (ne-eqb (suc k) 0 (λ (e : suc k ≡ 0). omega arith)))

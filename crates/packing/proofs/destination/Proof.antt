@@ -1,5 +1,5 @@
 -- The write bit at Y's place: none where it is 0, else Y alone, which is below 2 ^ 64.
-use mathlib.Core.Path.{_≡_, refl, ap, _∙_}
+use mathlib.Core.Path.{_≡_, ap, _∙_}
 use Prim.Native.Nat.{ℕ, zero, suc, _*_, _^_, _%_, _<_}
 use native.Mathlib.Nat.{zero-mul, one-mul, mod-eq-of-lt}
 use native.Mathlib.Omega.{arith}
