@@ -65,6 +65,7 @@ IN_WORDS {
     AlignedHeedsSixthBit: "aligned field heeds the sixth position bit",
     StatusPositionIgnored: "I8 ignored: position always from the pins",
     WidthZeroIsZero: "width 0 as 0 bits",
+    WidthZeroIs31: "width 0 as 31 bits: a mask one bit short",
     FieldZeroOf32Bits: "field operations: Z of all 32 bits",
     PassMaskNotInverted: "PASS-MASK never inverted",
     ExtbitNotInverted: "EXTBIT never inverts",

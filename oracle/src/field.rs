@@ -29,7 +29,7 @@ fn width(cycle: &Cycle) -> usize {
         width += usize::from(bit) << i;
     }
     if width == 0 && !cycle.has(Fault::WidthZeroIsZero) {
-        width = 32;
+        width = if cycle.has(Fault::WidthZeroIs31) { 31 } else { 32 };
     }
     width
 }

@@ -2,6 +2,7 @@
 // nothing above uses a mask on data. They are public for the crates above; a `requires` keeps n, a count of selected bits, in range.
 ghost use mathlib.Core.Path.{_≡_};
 ghost use Prim.Native.Nat.{_+_, _-_, _*_, _/_, _%_, _^_, _<_, _≤_};
+ghost use lib.Count.{ones};
 ghost use Rattle.bits.specs.Bits.{bytes4, selected, bitOf, signOf, zeroOf, merged, notOf, copies, carryOf, overflowOf, upBy, rotatedUp, fieldMask, maskedOf, putBit, priorityOf, parityOf};
 
 // How many bits a byte code selects (tables 3 and 5): eight less than 32 for each byte missing, so that no test is needed for code 0.
@@ -12,7 +13,7 @@ pub fn selected_bits(code: u32) -> u32
     32 - (4 - code) % 4 * 8
 }
 
-// The low n bits set.
+// The low n bits set, 2 to the n less 1: all ones, shifted down by what n lacks of 32, so that 32 is no case of its own.
 fn mask(n: u32) -> u32
     requires { ⌜ (1 ≤ n) × (n ≤ 32) ⌝ }
     ensures { λ r. ⌜ r ≡ 2 ^ n - 1 ⌝ }
@@ -190,14 +191,19 @@ pub fn priority(x: u32, n: u32) -> u32
     u32::leading_zeros(s) - (32 - n)
 }
 
-// Even parity by counts of ones, highest byte first.
+// The bit that makes the count of ones in it and the low byte of x even.
+fn byte_parity(x: u32) -> u32
+    ensures { λ r. ⌜ (r ≡ ones (x % 256) % 2) × (r < 2) ⌝ }
+{
+    u32::count_ones(x % 256) % 2
+}
+
+// Even parity, highest byte first, by doubling: a sum of four products the compiler works out two at a time, with masks that it stores.
 pub fn parity(x: u32) -> u32
     ensures { λ r. ⌜ r ≡ parityOf x ⌝ }
 {
-    u32::count_ones((x >> 24) % 256) % 2 * 8
-        + u32::count_ones((x >> 16) % 256) % 2 * 4
-        + u32::count_ones((x >> 8) % 256) % 2 * 2
-        + u32::count_ones(x % 256) % 2
+    let upper = byte_parity(x >> 24) * 2 + byte_parity(x >> 16);
+    (upper * 2 + byte_parity(x >> 8)) * 2 + byte_parity(x)
 }
 
 // Four bytes as one number, the first lowest: one load on a little-endian machine.

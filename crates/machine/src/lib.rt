@@ -342,12 +342,12 @@ fn turn(borrow: u32) -> u32
     0
 }
 
-// Width 0 stands for 32 (table 2).
+// Width 0 stands for 32 (table 2): 32 less what w lacks of it, so that no test is needed for width 0.
 fn full_width(w: u32) -> u32
     requires { ⌜ w < 32 ⌝ }
     ensures { λ r. ⌜ (r ≡ fullWidth w) × (1 ≤ r) × (r ≤ 32) ⌝ }
 {
-    if w == 0 { 32 } else { w }
+    32 - (32 - w) % 32
 }
 
 // The nibble bits read: two at a time into each byte, and the four bytes together at the top by one product.

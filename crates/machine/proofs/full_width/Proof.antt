@@ -1,18 +1,18 @@
--- A width that is not 0 is itself.
+-- 32 widths in two cases: 0, and one that lacks less than 32 of 32.
 use mathlib.Core.Path.{_≡_, refl}
-use Prim.Native.Nat.{ℕ, zero, suc, _≤_, _<_}
+use Prim.Native.Nat.{ℕ, zero, suc, _-_, _%_, _≤_, _<_}
 use native.Mathlib.Omega.{arith}
 use Rattle.machine.specs.Inputs.{fullWidth}
 use borrow.Author.Needs.{needs}
 use Rattle.machine.proofs.full_width.Statement.{statement}
 use Rattle.machine.proofs.full_width.Tie as tie
 
-itself : (w : ℕ) → (w ≡ 0 → ⊥) → w < 32 → (w ≡ fullWidth w) × (1 ≤ w) × (w ≤ 32)
-itself zero f h = absurd (f refl)
-itself (suc w) f h = (refl, omega arith, omega arith)
+counted : (w : ℕ) → w < 32 → (32 - (32 - w) % 32 ≡ fullWidth w) × (1 ≤ 32 - (32 - w) % 32) × (32 - (32 - w) % 32 ≤ 32)
+counted zero h = (refl, omega arith, omega arith)
+counted (suc w) h = (omega arith, omega arith, omega arith)
 
-returns-2 : tie.Need-returns-2
-returns-2 c = itself (c .before .args .w) (c .if1 .left) (omega arith)
+returns : tie.Need-returns
+returns c = counted (c .args .w) (omega arith)
 
 pub full-width-spec : {M : Type 1} → statement M
-full-width-spec = tie.close (tie.spec (λ c. search needs) returns-2)
+full-width-spec = tie.close (tie.spec (search needs) (search needs) returns)
