@@ -88,7 +88,7 @@ static uint32_t c_read(const uint8_t *text, size_t length, uint8_t *sheet,
 /*
  * The proved library: proved.h has functions like those above over its C
  * interface. run.sh links the archive; or, with BENCH_NATIVE, the same ones and
- * the library as native.sh compiles them.
+ * the library as compile.sh compiles them.
  */
 #ifdef BENCH_NATIVE
 run_function proved_run;

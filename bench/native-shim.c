@@ -1,5 +1,5 @@
 /*
- * The proved library's engine for a machine that is not x86-64: native.sh
+ * The proved library's engine for a machine that is not x86-64: compile.sh
  * compiles it by the x86-64 conventions to code for this machine.
  *
  * The library hands structs over as x86-64 does, whatever machine its module is

@@ -1,7 +1,7 @@
 #!/bin/sh
 # Builds the benchmark at -O3 and runs it:
 #
-#   bench/run.sh [--native] [--each [all] | --listing] [REPEATS]
+#   bench/run.sh [--native] [--no-jump-tables] [--each [all] | --listing] [REPEATS]
 #
 # Works from any directory. CC may name the compiler on an x86-64 machine.
 #
@@ -13,22 +13,27 @@
 # (--each is made at one).
 #
 # With --native a machine of another kind compiles both sides for itself, by the
-# kit's compiler too: see native.sh. --each times the operations one by one,
-# --listing the listing of a sheet and its reading.
+# kit's compiler too, and with --no-jump-tables the proved side makes decisions by
+# comparisons: see compile.sh. --each times the operations one by one, --listing
+# the listing of a sheet and its reading.
 set -eu
 here=$(cd -- "$(dirname -- "$0")" && pwd)
 archive=$here/../target/staticlib/libam29332.a
 machine=$(uname -m)
 
 native=
+tables=
 for word in "$@"; do
     shift
     case $word in
     --native) native=yes ;;
+    --no-jump-tables) tables=$word ;;
     --each | all | --listing | [1-9]*) set -- "$@" "$word" ;;
-    *) echo "usage: run.sh [--native] [--each [all] | --listing] [REPEATS]" >&2; exit 2 ;;
+    *) echo "usage: run.sh [--native] [--no-jump-tables] [--each [all] | --listing] [REPEATS]" >&2; exit 2 ;;
     esac
 done
+
+without=${tables:+, the proved library without jump tables}
 
 work=$(mktemp -d)
 trap 'rm -rf -- "$work"' EXIT
@@ -54,6 +59,10 @@ kit_compile() {
 }
 
 need_archive() {
+    if [ "$tables" ]; then
+        archive=$work/proved.a
+        "$here/compile.sh" "$tables" x86_64 "$archive"
+    fi
     [ -e "$archive" ] || { echo "first: rt staticlib am29332" >&2; exit 1; }
 }
 
@@ -62,7 +71,7 @@ need_archive() {
 plain() {
     need_archive
     compiler=${CC:-$(command -v cc || command -v gcc)}
-    echo "$machine, $("$compiler" --version | head -n 1)"
+    echo "$machine$without, $("$compiler" --version | head -n 1)"
     compile "$compiler"
     "$compiler" -o "$work/harness" $objects "$archive"
     "$work/harness" "$@"
@@ -70,7 +79,7 @@ plain() {
 
 emulated() {
     need_archive
-    echo "x86-64 code under the kit's emulator on $machine, $version"
+    echo "x86-64 code under the kit's emulator on $machine$without, $version"
     kit_compile x86_64
     lib=$chain/lib
     case " $* " in
@@ -114,8 +123,8 @@ best() {
 }
 
 native() {
-    echo "$machine code without the emulator, $version"
-    "$here/native.sh" "$work/proved.a"
+    echo "$machine code without the emulator$without, $version"
+    "$here/compile.sh" $tables "$machine" "$work/proved.a"
     kit_compile "$machine" -DBENCH_NATIVE
     cc -o "$work/harness" $objects "$work/proved.a"
     "$work/harness" "$@"
