@@ -12,6 +12,7 @@ instruction of one function. Mnemonics are a piece that stands in the table of c
 known, and so is data that can be written; the exit status is then 1. With --symbols there is a line for each symbol and its bytes."""
 import argparse
 import collections
+import functools
 import os
 import re
 import shutil
@@ -29,7 +30,7 @@ SYMBOLS, RELOCATIONS = 2, 4
 WRITE, LOADED, CODE, MERGED = 1, 2, 4, 16
 FUNCTION = 2
 
-Section = collections.namedtuple("Section", "name kind flags offset size link info bytes")
+Section = collections.namedtuple("Section", "name kind flags size link info bytes")
 Symbol = collections.namedtuple("Symbol", "name kind section value")
 Reference = collections.namedtuple("Reference", "at symbol added")
 Piece = collections.namedtuple("Piece", "section symbol size bytes users what linked")
@@ -62,7 +63,7 @@ class Library:
         count, names = struct.unpack_from("<HH", data, 0x3C)
         rows = [struct.unpack_from("<IIQQQQII", data, start + 64 * i) for i in range(count)]
         table = data[rows[names][4]:][:rows[names][5]]
-        self.sections = [Section(text_at(table, r[0]), r[1], r[2], r[4], r[5], r[6], r[7], data[r[4]:r[4] + r[5]]) for r in rows]
+        self.sections = [Section(text_at(table, r[0]), r[1], r[2], r[5], r[6], r[7], data[r[4]:r[4] + r[5]]) for r in rows]
         self.symbols = []
         for section in self.sections:
             if section.kind == SYMBOLS:
@@ -87,7 +88,7 @@ class Library:
         return next(i for i, name in self.functions.items() if name == function)
 
     def calls(self, function):
-        return {self.functions[r.symbol.section] for r in self.references[self.section_of(function)] if r.symbol.section in self.functions} - {function}
+        return {self.functions[r.symbol.section] for r in self.references[self.section_of(function)] if r.symbol.section in self.functions}
 
     def reached(self, functions):
         """The functions, and those that they call."""
@@ -121,6 +122,7 @@ class Library:
         return [r.at for r in inside] == list(range(at, end, 4)) and len({self.functions.get(r.symbol.section) for r in inside} - {None}) == 1
 
 
+@functools.lru_cache(None)
 def mnemonics():
     """The table of mnemonics as one text, column after column."""
     with open(os.path.join(ROOT, MNEMONICS), encoding="utf-8") as file:
@@ -150,6 +152,8 @@ def frame(function, lines):
     """The bytes of stack that a function takes: where its caller goes on, what it saves and sets aside, and what it uses below that."""
     taken, below = 8, 0
     for line in lines:
+        if re.match(r"callq?\s", line) and line.endswith(f"<{function}>"):
+            sys.exit(f"memory: {function} calls itself")
         moved = re.match(r"(add|sub)q?\s+\$(-?\w+), ?%rsp$", line)
         if moved:
             # 128 bytes are set aside by adding -128, which one disassembler prints as 2 to the 64 less 128
@@ -188,8 +192,12 @@ def tell_read_only(pieces, each):
     groups = []
     for piece in pieces:
         last = groups[-1][-1] if groups else None
-        joined = last and (last.section, last.users, last.what) == (piece.section, piece.users, piece.what) and piece.what == "mnemonics" and not each
-        groups[-1].append(piece) if joined else groups.append([piece])
+        alike = last and (last.section, last.users, last.what) == (piece.section, piece.users, piece.what)
+        joined = alike and piece.what == "mnemonics" and not each
+        if joined:
+            groups[-1].append(piece)
+        else:
+            groups.append([piece])
     row("read-only data", "bytes")
     section = None
     for group in groups:
@@ -219,7 +227,8 @@ def tell_calls(library, pieces, frames, entries):
     row("a caller of", "code", "read-only", "stack")
     for entry in entries:
         line(entry, [entry])
-    line("all of these", entries)
+    if len(entries) > 1:
+        line("all of these", entries)
 
 
 def main():
