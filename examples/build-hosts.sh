@@ -27,6 +27,8 @@ if [ ! -e "$archive" ] || [ -n "$(find "$root/crates" -name '*.rt' -newer "$arch
 fi
 
 "$root/tools/header_check.py"
+# A constant whose use is not known, a stored mask say, is told here.
+"$root/tools/memory.py" >"$work/memory.txt" || { cat "$work/memory.txt" >&2; exit 1; }
 
 # c_host_native, c_host_elsewhere: "$work/c-host", and a command that runs it.
 c_host_native() {
