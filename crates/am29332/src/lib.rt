@@ -1,5 +1,7 @@
 // The C interface: numbers, slices and plain structs only, for hosts in C and Rust (include/am29332.h). A slice is a pointer and a length
 // on the other side. Each function hands its values on to the entry point of the crate that does the work, and its answer back in numbers.
+#![tactic(auto)]
+
 ghost use Rattle.std.specs.Prelude.{◌≡◌, ℕ, ◌+◌};
 ghost use Rattle.reasons.specs.Reasons.{check_numbers};
 ghost use Rattle.machine.specs.Core.{fresh_of};

@@ -1,5 +1,7 @@
 // Arithmetic instructions (tables 10-1 and 10-2, appendix A). Public for the chip's dispatch, which hands over what stands at the chip and
 // the source that the mnemonic names.
+#![tactic(auto)]
+
 mod nibbles; // the nibble bits
 
 ghost use Rattle.std.specs.Prelude.{◌≡◌, ◌+◌, ◌%◌, ◌^◌, ◌<◌, get_or};

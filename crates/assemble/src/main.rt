@@ -1,5 +1,7 @@
 // The assembler: reads a listing, or a text that an editor wrote by its rules, from standard input and writes the sheet; or why there is none, to
 // standard error. The longest listing has 425,903 bytes; a text with more blanks may be longer, and one that fills the buffer is refused.
+#![tactic(auto)]
+
 ghost use Rattle.std.specs.Prelude.{◌≡◌, length};
 
 const ROOM: usize = 1048576;

@@ -17,6 +17,8 @@
 //     UMULLAST  code=0 A=4 B=5 Y=5 write
 //     LOADQ-A   code=0 A=7 B=5                  # restores them
 //     LDSTAT-A  code=0 A=6 B=5
+#![tactic(auto)]
+
 use lines::print_word;
 use machine::Machine;
 

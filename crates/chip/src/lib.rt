@@ -1,4 +1,6 @@
 // The chip: one decision over the 128 opcode numbers, what each operation does, and the single word as an entry point.
+#![tactic(auto)]
+
 ghost use Rattle.std.specs.Prelude.{◌≡◌, get_or};
 ghost use Rattle.reasons.specs.Reasons.{outcome_of};
 ghost use Rattle.machine.specs.Inputs.{Sound};

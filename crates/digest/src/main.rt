@@ -1,6 +1,8 @@
 // Draws the cases that the independent program draws, runs each on the proved chip twice, as a single word and as a sheet of one word on
 // registers, and prints for each opcode number a line with the digest of both. In words: oracle/README.md. The stored output is the independent
 // program's.
+#![tactic(auto)]
+
 mod draw;
 mod registers;
 

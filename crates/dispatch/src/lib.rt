@@ -1,6 +1,8 @@
 // The dispatch of a run: an opcode number straight to its page's function. `chip::decode` and `chip::perform` say the same in two steps, for
 // a single word; here all is one table with an entry for each of the 128 numbers, which compiles to one jump, and the run has nothing else
 // between two words (docs/SPEED.md). Both are held to one definition, `perform_of`.
+#![tactic(auto)]
+
 ghost use Rattle.std.specs.Prelude.{◌≡◌};
 ghost use Rattle.machine.specs.Inputs.{Sound, leaving};
 ghost use Rattle.chip.specs.Glossary.{perform_of};

@@ -1,5 +1,7 @@
 // Divide instructions (table 11-1, appendix B), in opcode order; what they share is in `steps`. Unselected bytes of Y come from B,
 // unselected bytes of Q stay. C is the carry out of F, in borrow mode too.
+#![tactic(auto)]
+
 mod steps;
 
 ghost use Rattle.std.specs.Prelude.{◌≡◌, ◌%◌, ◌^◌, ◌<◌, get_or};

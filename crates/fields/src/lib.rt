@@ -1,5 +1,7 @@
 // The variable-length instructions, the quarter from 60 on: N-bit shifts (table 13), bit manipulation (tables 14-1 and 14-2), field
 // logical instructions (table 15) and the mask (table 16). Public for the chip's dispatch.
+#![tactic(auto)]
+
 mod bit;
 mod logical;
 mod nbit;

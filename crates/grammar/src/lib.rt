@@ -1,4 +1,6 @@
 // One line of a listing, or of a text that an editor wrote by its rules (docs/LISTING.md): what it says.
+#![tactic(auto)]
+
 ghost use Rattle.std.specs.Prelude.{◌≡◌, [], ◌∷◌, map, ◌≤◌, ◌<◌, length, drop};
 ghost use Rattle.text.specs.Ascii.{same};
 ghost use Rattle.grammar.specs.Grammar.{blank, capital, is_digit, number_in, starts_with, labelled, opcode_of, head_in, word_in};

@@ -1,4 +1,6 @@
 // Reasons 11 to 13: the handler's form, registers that main list and handler both name, and the schedule.
+#![tactic(auto)]
+
 ghost use Rattle.std.specs.Prelude.{◌≡◌, ◌+◌, ◌*◌, ◌≤◌, ◌<◌, length, get_or};
 ghost use Rattle.reasons.specs.Reasons.{first_of, rows_by, check_numbers};
 ghost use Rattle.packing.specs.Registers.{common, names_all, Narrow};

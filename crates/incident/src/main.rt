@@ -1,6 +1,8 @@
 // The incident's choice (docs/INCIDENT.md) on every pair of eight distances: which word was heard beside which is nearer. It reads the sheet
 // of examples/sheets/fifteen.words, packed, and leaves the registers after it; a line has the distances to 'fifteen' and to 'fifty', the word that
 // the sheet chose and the nearer word.
+#![tactic(auto)]
+
 use lines::print_word;
 use machine::Machine;
 

@@ -1,4 +1,6 @@
 // Runs a main sheet with a handler let in at the boundaries of a schedule.
+#![tactic(auto)]
+
 ghost use Rattle.std.specs.Prelude.{◌≡◌, ◌++◌, ◌+◌, ◌^◌, ◌≤◌, ◌<◌, length};
 ghost use Rattle.machine.specs.Status.{Good};
 ghost use Rattle.sheet.specs.Sheet.{executions_of, between, Ready};

@@ -1,6 +1,8 @@
 // Reads interrupted runs with the answers of the independent program, a line each, and reports how many the proved one misses and where the
 // first miss is. oracle/interrupts.sh makes the lines: the fields of `oracle interrupts`, the lists filled up with `-` to one width. The fields are
 // main sheet, handler sheet, schedule, registers, Q, status; then reason, place, mark, registers, Q, status.
+#![tactic(auto)]
+
 ghost use Rattle.std.specs.Prelude.{◌≡◌, length};
 
 use interrupt::Served;

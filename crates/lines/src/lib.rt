@@ -1,5 +1,7 @@
 // What the programs share that read cases with their answers or print words: hex numbers in a line, lists of them, the tally of the cases that were
 // missed, and a word in print. A list is filled up with `-`, so that all lines are of one length.
+#![tactic(auto)]
+
 ghost use Rattle.std.specs.Prelude.{◌≡◌, true, ◌+◌, ◌≤◌, ◌<◌, min, length};
 ghost use Rattle.lines.specs.Lines.{joined_of, number_of, number_at, filled_of, Taken, counted_of};
 

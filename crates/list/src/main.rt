@@ -1,5 +1,7 @@
 // The lister: reads a sheet from standard input and writes its listing, or why it has none. The longest sheet has 24,574 bytes, so one that fills
 // the buffer has a wrong length.
+#![tactic(auto)]
+
 fn main() {
     let mut sheet = [0u8; 24576];
     let got = io::read_full(0, &mut sheet);

@@ -1,4 +1,6 @@
 // The lister: a sheet as text that a person can read (docs/LISTING.md), into a lent buffer.
+#![tactic(auto)]
+
 ghost use Rattle.std.specs.Prelude.{◌≡◌, ◌+◌, ◌≤◌, ◌<◌, length};
 ghost use Rattle.reasons.specs.Reasons.{first_of, check_numbers};
 ghost use Rattle.packing.specs.Packing.{InRange};

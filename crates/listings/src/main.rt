@@ -1,6 +1,8 @@
 // Sheets listed and texts read, one case after another, and a line about each: the gate's cases (oracle/listings.sh) and drawn ones
 // (oracle/compare-listings.sh). Their form and that of the answers is in oracle/README.md; the stored answers are the independent program's.
 // A lent buffer is A5 (hex) beforehand, and each case puts back what its answer was told from.
+#![tactic(auto)]
+
 ghost use Rattle.std.specs.Prelude.{◌≡◌, ◌+◌, ◌≤◌, length};
 
 use reasons::{Check, Output};

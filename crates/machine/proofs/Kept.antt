@@ -8,7 +8,7 @@ use Rattle.machine.specs.declared.Status.{Status}
 use Rattle.machine.specs.declared.Inputs.{Inputs}
 use Rattle.machine.specs.declared.Outputs.{Outputs}
 use Rattle.machine.specs.Status.{Good, with_position, with_c, with_n, with_v, with_z, with_l, with_m, with_s}
-use Rattle.machine.specs.Inputs.{bits_of, zero_sign, result, Sound, Kept}
+use Rattle.machine.specs.Inputs.{bits_of, zero_sign, result_of, Sound, Kept}
 
 pub bits-le : (x : Inputs) → Sound x → bits_of x ≤ 32
 bits-le x h = (selected_bounds x.code h.code).1
@@ -41,7 +41,7 @@ good_s f s h g = record { position = g.position; width = g.width; c = g.c; n = g
 pub good_zero-sign : (n r : ℕ) (s : Status) → Good s → Good (zero_sign n r s)
 good_zero-sign n r s g = good_z (zero_of n r) _ (zero_flag n r) (good_n (sign_of n r) s (sign-flag n r) g)
 
-pub result-kept : (x : Inputs) (r u : ℕ) → Sound x → x.q < 2 ^ 32 → u < 2 ^ 32 → Kept (result x r u)
+pub result-kept : (x : Inputs) (r u : ℕ) → Sound x → x.q < 2 ^ 32 → u < 2 ^ 32 → Kept (result_of x r u)
 result-kept x r u h hq hu = record {
   y = merged-lt (bits_of x) r u (bits-le x h) hu;
   q = hq;

@@ -48,8 +48,8 @@ abbrev pub zero_sign : ℕ → ℕ → Status → Status
 zero_sign n r s = with_z (zero_of n r) (with_n (sign_of n r) s)
 
 -- r in the selected bytes and u in the unselected ones; Z and N of the selected bytes; Q as it was
-abbrev pub result : Inputs → ℕ → ℕ → Outputs
-result x r u = leaving x (merged (bits_of x) r u) (zero_sign (bits_of x) r x.status)
+abbrev pub result_of : Inputs → ℕ → ℕ → Outputs
+result_of x r u = leaving x (merged (bits_of x) r u) (zero_sign (bits_of x) r x.status)
 
 -- ---- in range: what every entry point sees to, and every word keeps
 pub record Sound (x : Inputs) : Type 0 where

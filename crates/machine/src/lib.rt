@@ -1,8 +1,10 @@
 // The machine: the status register, Q, and what stands at the chip when a word starts and when it ends.
+#![tactic(auto)]
+
 ghost use Rattle.std.specs.Prelude.{◌≡◌, ◌+◌, ◌*◌, ◌^◌, ◌<◌, ◌≤◌};
 ghost use Rattle.bits.specs.Bits.{choose};
 ghost use Rattle.machine.specs.Status.{worked_out, gathered, spread_out, as_read, loaded, Good};
-ghost use Rattle.machine.specs.Inputs.{bits_of, position_of, width_of, carry_in, link_in, read_by, full_width, result, Sound};
+ghost use Rattle.machine.specs.Inputs.{bits_of, position_of, width_of, carry_in, link_in, read_by, full_width, result_of, Sound};
 ghost use Rattle.machine.specs.Core.{fresh_of, taken, handed_back, shown_by, shown_status};
 ghost use Rattle.machine.specs.Pins.{pins_of};
 
@@ -74,14 +76,14 @@ pub struct Shown {
 
 impl Machine {
     pub fn fresh() -> Machine
-        ensures* { λ r. ⌜ r ≡ fresh_of ⌝ }
+        ensures { result ≡ fresh_of }
     {
         Machine { q: 0, status: 0 }
     }
 
     // Taken in: bits 13, 14, 15 and 23 of the status are ignored.
     pub fn enter(self) -> Core
-        ensures* { λ r. ⌜ r ≡ taken self ⌝ }
+        ensures { result ≡ taken self }
     {
         Core {
             q: self.q,
@@ -94,7 +96,7 @@ impl Core {
     // Handed back: those four bits are worked out, bit 13 in carry mode whatever words ran.
     pub fn leave(self) -> Machine
         requires { Good self.status }
-        ensures* { λ r. ⌜ r ≡ handed_back self ⌝ }
+        ensures { result ≡ handed_back self }
     {
         let status = self.status;
         Machine {
@@ -107,7 +109,7 @@ impl Core {
 impl Outputs {
     // What is kept of it and shown, of a word with the given borrow switch.
     pub fn shown(self, borrow: u32) -> Shown
-        ensures* { λ r. ⌜ r ≡ shown_by borrow self ⌝ }
+        ensures { result ≡ shown_by borrow self }
     {
         let status = self.status;
         Shown {
@@ -122,7 +124,7 @@ impl Shown {
     // The status register as the word that ran reads it: what a single word answers and a trace's line prints.
     pub fn status(self) -> u32
         requires { Good self.core.status }
-        ensures* { λ r. ⌜ r ≡ shown_status self ⌝ }
+        ensures { result ≡ shown_status self }
     {
         let core = self.core;
         let status = core.status;
@@ -154,7 +156,7 @@ impl Status {
 
     // A word loaded into the register: bits 13, 14, 15 and 23 are ignored.
     pub fn load(x: u32) -> Status
-        ensures* { λ r. ⌜ r ≡ loaded x ⌝ }
+        ensures { result ≡ loaded x }
     {
         Status {
             position: x % 256,
@@ -173,7 +175,7 @@ impl Status {
     // The register field by field. Where an operation takes it whole and changes some fields, the compiler would copy two neighbours that it
     // leaves alone as one number of 64 bits, and then do so in the whole run, and take them apart again for each word (docs/SPEED.md).
     fn apart(self) -> Status
-        ensures* { λ r. ⌜ r ≡ self ⌝ }
+        ensures { result ≡ self }
     {
         Status {
             position: self.position,
@@ -201,7 +203,7 @@ impl Status {
     // Bits 13 to 19 in their places: where one bit is of two flags, N and V are exclusive, C and Z are not; in bit 13 C counts by the switch.
     fn flags(self, borrow: u32) -> u32
         requires { Good self }
-        ensures* { λ r. ⌜ (r ≡ worked_out borrow self * 2 ^ 13 + self.c * 2 ^ 16 + self.n * 2 ^ 17 + self.v * 2 ^ 18 + self.z * 2 ^ 19) × (r < 2 ^ 20) ⌝ }
+        ensures { (result ≡ worked_out borrow self * 2 ^ 13 + self.c * 2 ^ 16 + self.n * 2 ^ 17 + self.v * 2 ^ 18 + self.z * 2 ^ 19) × (result < 2 ^ 20) }
     {
         let turned = turn(borrow);
         ((self.n * Self::N_14_15) ^ (self.v * Self::V_14_15))
@@ -212,7 +214,7 @@ impl Status {
     // The register as it is read under a borrow switch.
     pub fn read(self, borrow: u32) -> u32
         requires { Good self }
-        ensures* { λ r. ⌜ r ≡ as_read borrow self ⌝ }
+        ensures { result ≡ as_read borrow self }
     {
         let flags = self.flags(borrow);
         self.position
@@ -227,14 +229,14 @@ impl Status {
     // The pins C, Z, N, V and L, as five bits in that order: what a front panel shows of the register after a word.
     pub fn pins(self) -> u32
         requires { Good self }
-        ensures* { λ r. ⌜ r ≡ pins_of self ⌝ }
+        ensures { result ≡ pins_of self }
     {
         self.c * 16 + self.z * 8 + self.n * 4 + self.v * 2 + self.l
     }
 
     // Those that a status word shows where no word ran.
     pub fn pins_in(x: u32) -> u32
-        ensures* { λ r. ⌜ r ≡ pins_of (loaded x) ⌝ }
+        ensures { result ≡ pins_of (loaded x) }
     {
         let status = Self::load(x);
         status.pins()
@@ -244,7 +246,7 @@ impl Status {
 impl Outputs {
     // The status register, for an operation to change.
     pub fn held(self) -> Status
-        ensures* { λ r. ⌜ r ≡ self.status ⌝ }
+        ensures { result ≡ self.status }
     {
         let status = self.status;
         status.apart()
@@ -254,7 +256,7 @@ impl Outputs {
 impl Inputs {
     // The status register, for an operation to change.
     pub fn held(self) -> Status
-        ensures* { λ r. ⌜ r ≡ self.status ⌝ }
+        ensures { result ≡ self.status }
     {
         let status = self.status;
         status.apart()
@@ -263,7 +265,7 @@ impl Inputs {
     // The number of selected bits.
     pub fn bits(self) -> u32
         requires { Sound self }
-        ensures* { λ r. ⌜ (r ≡ bits_of self) × (8 ≤ r) × (r ≤ 32) ⌝ }
+        ensures { (result ≡ bits_of self) × (8 ≤ result) × (result ≤ 32) }
     {
         bits::selected_bits(self.code)
     }
@@ -271,7 +273,7 @@ impl Inputs {
     // The position that I8 chooses.
     pub fn position(self) -> u32
         requires { Sound self }
-        ensures* { λ r. ⌜ (r ≡ position_of self) × (r < 64) ⌝ }
+        ensures { (result ≡ position_of self) × (result < 64) }
     {
         if self.code < 2 {
             return self.position;
@@ -282,7 +284,7 @@ impl Inputs {
     // The width that I7 chooses, 1 to 32.
     pub fn width(self) -> u32
         requires { Sound self }
-        ensures* { λ r. ⌜ (r ≡ width_of self) × (1 ≤ r) × (r ≤ 32) ⌝ }
+        ensures { (result ≡ width_of self) × (1 ≤ result) × (result ≤ 32) }
     {
         if self.code % 2 == 0 {
             return full_width(self.width);
@@ -293,7 +295,7 @@ impl Inputs {
     // The carry that macro select chooses.
     pub fn carry_in(self) -> u32
         requires { Sound self }
-        ensures* { λ r. ⌜ (r ≡ carry_in self) × (r < 2) ⌝ }
+        ensures { (result ≡ carry_in self) × (result < 2) }
     {
         if self.select == 0 {
             return self.status.c;
@@ -304,7 +306,7 @@ impl Inputs {
     // The link that macro select chooses.
     pub fn link_in(self) -> u32
         requires { Sound self }
-        ensures* { λ r. ⌜ (r ≡ link_in self) × (r < 2) ⌝ }
+        ensures { (result ≡ link_in self) × (result < 2) }
     {
         if self.select == 0 {
             return self.status.l;
@@ -315,7 +317,7 @@ impl Inputs {
     // The status register as this word reads it, by its own borrow switch: the only way in which a page reads it.
     pub fn read(self, status: Status) -> u32
         requires { Good status }
-        ensures* { λ r. ⌜ r ≡ read_by self status ⌝ }
+        ensures { result ≡ read_by self status }
     {
         status.read(self.borrow)
     }
@@ -323,7 +325,7 @@ impl Inputs {
     // What most words leave: r in the selected bytes, u in the others, Z and N of r.
     pub fn result(self, r: u32, u: u32) -> Outputs
         requires { Sound self }
-        ensures* { λ o. ⌜ o ≡ result self r u ⌝ }
+        ensures { result ≡ result_of self r u }
     {
         let n = self.bits();
         let mut s = self.held();
@@ -339,7 +341,7 @@ impl Inputs {
 
 // What turns C over in bit 13 (EXTBIT-STAT, note 2): in carry mode it counts there as (not C), in borrow mode as it is.
 fn turn(borrow: u32) -> u32
-    ensures* { λ r. ⌜ r ≡ choose borrow 0x2000 0 ⌝ }
+    ensures { result ≡ choose borrow 0x2000 0 }
 {
     if borrow == CARRY_MODE {
         return Status::UNSIGNED_LE;
@@ -350,7 +352,7 @@ fn turn(borrow: u32) -> u32
 // Width 0 stands for 32 (table 2): 32 less what w lacks of it, so that no test is needed for width 0.
 fn full_width(w: u32) -> u32
     requires { w < 32 }
-    ensures* { λ r. ⌜ (r ≡ full_width w) × (1 ≤ r) × (r ≤ 32) ⌝ }
+    ensures { (result ≡ full_width w) × (1 ≤ result) × (result ≤ 32) }
 {
     32 - (32 - w) % 32
 }
@@ -358,7 +360,7 @@ fn full_width(w: u32) -> u32
 // The nibble bits read: two at a time into each byte, and the four bytes together at the top by one product.
 fn gather(x: u32) -> u32
     requires { spread_out 8 (gathered 8 x) ≡ x }
-    ensures* { λ r. ⌜ (r ≡ gathered 8 x * 2 ^ 24) × (r ≤ 0xff00_0000) ⌝ }
+    ensures { (result ≡ gathered 8 x * 2 ^ 24) × (result ≤ 0xff00_0000) }
 {
     let pairs = (x | (x >> 3)) & 0x0303_0303;
     ((pairs as u64 * 0x104_1040) & 0xff00_0000) as u32
@@ -367,7 +369,7 @@ fn gather(x: u32) -> u32
 // The nibble bits loaded: the upper half of the bits goes up, then the upper half of each half, then that of each pair.
 fn spread(x: u32) -> u32
     requires { x < 256 }
-    ensures* { λ r. ⌜ r ≡ spread_out 8 x ⌝ }
+    ensures { result ≡ spread_out 8 x }
 {
     let halves = (x * 0x1001) & 0x000f_000f;
     let pairs = (halves * 0x41) & 0x0303_0303;

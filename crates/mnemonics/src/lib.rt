@@ -1,4 +1,6 @@
 // The mnemonics of the operations, in one table (docs/LISTING.md).
+#![tactic(auto)]
+
 ghost use Rattle.std.specs.Prelude.{◌≡◌, ◌<◌};
 ghost use Rattle.mnemonics.specs.Mnemonics.{mnemonic_of, in_column, columns};
 

@@ -4,11 +4,11 @@ use Rattle.bits.specs.Bits.{sign_of, merged, copies}
 use Rattle.machine.specs.declared.Inputs.{Inputs}
 use Rattle.machine.specs.declared.Outputs.{Outputs}
 use Rattle.machine.specs.Status.{loaded}
-use Rattle.machine.specs.Inputs.{bits_of, read_by, leaving, zero_sign, result}
+use Rattle.machine.specs.Inputs.{bits_of, read_by, leaving, zero_sign, result_of}
 
 -- The unselected most significant bytes contain zeroes. Z and N are of the selected bytes.
 unfoldable pub zero_extend : Inputs → ℕ → Outputs
-zero_extend x s = result x s 0
+zero_extend x s = result_of x s 0
 
 -- 00
 abbrev pub ZERO-EXTA : Inputs → Outputs
@@ -57,11 +57,11 @@ LOADQ-B x = load_q x x.b
 
 -- 0E. The unselected most significant bytes contain the corresponding bytes of B.
 abbrev pub MERGEA-B : Inputs → Outputs
-MERGEA-B x = result x x.a x.b
+MERGEA-B x = result_of x x.a x.b
 
 -- 0F. The unselected most significant bytes contain the corresponding bytes of A.
 abbrev pub MERGEB-A : Inputs → Outputs
-MERGEB-A x = result x x.b x.a
+MERGEB-A x = result_of x x.b x.a
 
 -- The selected bytes are loaded into the status register, the others of it are not affected; the Y bus shows the operand's selected bytes
 -- as they are (M29), and the status register's other bytes as this word reads them. STATUS <13, 14, 15, 23> cannot be written.

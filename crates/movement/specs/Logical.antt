@@ -6,19 +6,19 @@ use Rattle.bits.specs.Bits.{merged, not_of, copies}
 use Rattle.machine.specs.declared.Inputs.{Inputs}
 use Rattle.machine.specs.declared.Outputs.{Outputs}
 use Rattle.machine.specs.Status.{with_z}
-use Rattle.machine.specs.Inputs.{bits_of, leaving, result}
+use Rattle.machine.specs.Inputs.{bits_of, leaving, result_of}
 
 -- 08
 abbrev pub NOT-A : Inputs → Outputs
-NOT-A x = result x (not_of x.a) x.a
+NOT-A x = result_of x (not_of x.a) x.a
 
 -- 09
 abbrev pub NOT-B : Inputs → Outputs
-NOT-B x = result x (not_of x.b) x.b
+NOT-B x = result_of x (not_of x.b) x.b
 
 -- 3C. Z is always set, N always reset.
 abbrev pub ZERO : Inputs → Outputs
-ZERO x = result x 0 x.b
+ZERO x = result_of x 0 x.b
 
 -- 3D. The selected bits are forced to the N flag, whose state is checked in the status register, and not to the sign of B (M33). Z is set if N
 -- equals 0; N stays.
@@ -27,16 +27,16 @@ SIGN x = leaving x (merged (bits_of x) (copies x.status.n) x.b) (with_z (1 - x.s
 
 -- 3E
 abbrev pub OR : Inputs → Outputs
-OR x = result x (bit_or x.a x.b) x.b
+OR x = result_of x (bit_or x.a x.b) x.b
 
 -- 3F
 abbrev pub XOR : Inputs → Outputs
-XOR x = result x (bit_xor x.a x.b) x.b
+XOR x = result_of x (bit_xor x.a x.b) x.b
 
 -- 40
 abbrev pub AND : Inputs → Outputs
-AND x = result x (bit_and x.a x.b) x.b
+AND x = result_of x (bit_and x.a x.b) x.b
 
 -- 41
 abbrev pub XNOR : Inputs → Outputs
-XNOR x = result x (not_of (bit_xor x.a x.b)) x.b
+XNOR x = result_of x (not_of (bit_xor x.a x.b)) x.b

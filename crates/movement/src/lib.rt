@@ -1,8 +1,10 @@
 // Data movement, logical and prioritize instructions (tables 6, 7 and 9). Public for the chip's dispatch, which hands over what stands
 // at the chip and the source that the mnemonic names.
+#![tactic(auto)]
+
 ghost use Rattle.std.specs.Prelude.{◌≡◌};
 ghost use Rattle.bits.specs.Bits.{not_of, merged};
-ghost use Rattle.machine.specs.Inputs.{Sound, bits_of, read_by, result};
+ghost use Rattle.machine.specs.Inputs.{Sound, bits_of, read_by, result_of};
 ghost use Rattle.movement.specs.DataMovement.{zero_extend, sign_extend, PASS-STAT, PASS-Q, load_q, load_status};
 ghost use Rattle.movement.specs.Logical.{ZERO, SIGN, OR, XOR, AND, XNOR};
 ghost use Rattle.movement.specs.Prioritize.{prioritize};
@@ -12,7 +14,7 @@ use machine::{Inputs, Outputs, Status};
 // ZERO-EXTA, ZERO-EXTB
 pub fn zero_extend(x: Inputs, s: u32) -> Outputs
     requires { Sound x }
-    ensures* { λ r. ⌜ r ≡ zero_extend x s ⌝ }
+    ensures { result ≡ zero_extend x s }
 {
     x.result(s, 0)
 }
@@ -20,7 +22,7 @@ pub fn zero_extend(x: Inputs, s: u32) -> Outputs
 // SIGN-EXTA, SIGN-EXTB: Z and N are of the whole Y bus.
 pub fn sign_extend(x: Inputs, s: u32) -> Outputs
     requires { Sound x }
-    ensures* { λ r. ⌜ r ≡ sign_extend x s ⌝ }
+    ensures { result ≡ sign_extend x s }
 {
     let n = x.bits();
     let y = bits::merge(s, bits::spread(bits::sign(s, n)), n);
@@ -32,7 +34,7 @@ pub fn sign_extend(x: Inputs, s: u32) -> Outputs
 
 pub fn pass_status(x: Inputs) -> Outputs
     requires { Sound x }
-    ensures* { λ r. ⌜ r ≡ PASS-STAT x ⌝ }
+    ensures { result ≡ PASS-STAT x }
 {
     let n = x.bits();
     let status = x.status;
@@ -45,7 +47,7 @@ pub fn pass_status(x: Inputs) -> Outputs
 
 pub fn pass_q(x: Inputs) -> Outputs
     requires { Sound x }
-    ensures* { λ r. ⌜ r ≡ PASS-Q x ⌝ }
+    ensures { result ≡ PASS-Q x }
 {
     let n = x.bits();
     let status = x.status;
@@ -59,7 +61,7 @@ pub fn pass_q(x: Inputs) -> Outputs
 // LOADQ-A, LOADQ-B
 pub fn load_q(x: Inputs, s: u32) -> Outputs
     requires { Sound x }
-    ensures* { λ r. ⌜ r ≡ load_q x s ⌝ }
+    ensures { result ≡ load_q x s }
 {
     let o = x.result(s, x.q);
     let status = o.status;
@@ -73,7 +75,7 @@ pub fn load_q(x: Inputs, s: u32) -> Outputs
 // MERGEA-B, MERGEB-A
 pub fn merge(x: Inputs, s: u32, u: u32) -> Outputs
     requires { Sound x }
-    ensures* { λ r. ⌜ r ≡ result x s u ⌝ }
+    ensures { result ≡ result_of x s u }
 {
     x.result(s, u)
 }
@@ -82,7 +84,7 @@ pub fn merge(x: Inputs, s: u32, u: u32) -> Outputs
 // handler's last word, the register need not be read.
 fn over_status(x: Inputs, s: u32) -> u32
     requires { Sound x }
-    ensures* { λ r. ⌜ r ≡ merged (bits_of x) s (read_by x x.status) ⌝ }
+    ensures { result ≡ merged (bits_of x) s (read_by x x.status) }
 {
     if x.code == 0 {
         return s;
@@ -95,7 +97,7 @@ fn over_status(x: Inputs, s: u32) -> u32
 // LDSTAT-A, LDSTAT-B: Y shows the operand's bytes as they are, the register takes them without bits 13, 14, 15 and 23.
 pub fn load_status(x: Inputs, s: u32) -> Outputs
     requires { Sound x }
-    ensures* { λ r. ⌜ r ≡ load_status x s ⌝ }
+    ensures { result ≡ load_status x s }
 {
     let y = over_status(x, s);
     Outputs {
@@ -108,14 +110,14 @@ pub fn load_status(x: Inputs, s: u32) -> Outputs
 // NOT-A, NOT-B
 pub fn not(x: Inputs, s: u32) -> Outputs
     requires { Sound x }
-    ensures* { λ r. ⌜ r ≡ result x (not_of s) s ⌝ }
+    ensures { result ≡ result_of x (not_of s) s }
 {
     x.result(!s, s)
 }
 
 pub fn zero(x: Inputs) -> Outputs
     requires { Sound x }
-    ensures* { λ r. ⌜ r ≡ ZERO x ⌝ }
+    ensures { result ≡ ZERO x }
 {
     x.result(0, x.b)
 }
@@ -123,7 +125,7 @@ pub fn zero(x: Inputs) -> Outputs
 // SIGN: the N flag, not the sign of B, whatever the page's title says.
 pub fn sign(x: Inputs) -> Outputs
     requires { Sound x }
-    ensures* { λ r. ⌜ r ≡ SIGN x ⌝ }
+    ensures { result ≡ SIGN x }
 {
     let n = x.bits();
     let mut status = x.held();
@@ -137,28 +139,28 @@ pub fn sign(x: Inputs) -> Outputs
 
 pub fn or(x: Inputs) -> Outputs
     requires { Sound x }
-    ensures* { λ r. ⌜ r ≡ OR x ⌝ }
+    ensures { result ≡ OR x }
 {
     x.result(x.a | x.b, x.b)
 }
 
 pub fn xor(x: Inputs) -> Outputs
     requires { Sound x }
-    ensures* { λ r. ⌜ r ≡ XOR x ⌝ }
+    ensures { result ≡ XOR x }
 {
     x.result(x.a ^ x.b, x.b)
 }
 
 pub fn and(x: Inputs) -> Outputs
     requires { Sound x }
-    ensures* { λ r. ⌜ r ≡ AND x ⌝ }
+    ensures { result ≡ AND x }
 {
     x.result(x.a & x.b, x.b)
 }
 
 pub fn xnor(x: Inputs) -> Outputs
     requires { Sound x }
-    ensures* { λ r. ⌜ r ≡ XNOR x ⌝ }
+    ensures { result ≡ XNOR x }
 {
     x.result(!(x.a ^ x.b), x.b)
 }
@@ -166,7 +168,7 @@ pub fn xnor(x: Inputs) -> Outputs
 // PRIOR-A, PRIOR-B
 pub fn prioritize(x: Inputs, s: u32) -> Outputs
     requires { Sound x }
-    ensures* { λ r. ⌜ r ≡ prioritize x s ⌝ }
+    ensures { result ≡ prioritize x s }
 {
     let n = x.bits();
     let code = bits::priority(s, n);

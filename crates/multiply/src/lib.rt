@@ -1,5 +1,7 @@
 // Multiply steps (table 12-1, appendix B): the modified Booth algorithm, two bits a step. A value marked * there has the two extra bits of
 // the internally extended ALU and is a `u64` here. Public for the chip's dispatch.
+#![tactic(auto)]
+
 ghost use Rattle.std.specs.Prelude.{◌≡◌, ◌+◌, ◌-◌, ◌*◌, ◌/◌, ◌%◌, ◌^◌, ◌<◌, ◌≤◌, get_or};
 ghost use Rattle.machine.specs.Inputs.{bits_of, Sound};
 ghost use Rattle.multiply.specs.Multiply.{zero_extended, sign_extended, partial, shifted_by2, first_step, step, SMULFIRST, UMULLAST, multiplies};

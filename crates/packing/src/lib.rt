@@ -1,4 +1,6 @@
 // A word of a sheet: 48 bits in six bytes, most significant first, packed and unpacked.
+#![tactic(auto)]
+
 ghost use Rattle.std.specs.Prelude.{◌≡◌, ◌∷◌, ◌++◌, ◌+◌, ◌*◌, ◌%◌, ◌^◌, ◌<◌, ◌≤◌, length, drop, leb};
 ghost use Rattle.bits.specs.Bits.{choose};
 ghost use Rattle.reasons.specs.Reasons.{first_of, check_numbers};

@@ -25,6 +25,8 @@
 //
 // The third is the second without those four words: table 11-2 without its jump. The fourth is the third without its SDIVLAST2. Both miss some
 // pairs, and how many is what is asked of them. The stored output is the independent program's (oracle/README.md).
+#![tactic(auto)]
+
 ghost use Rattle.std.specs.Prelude.{◌+◌, ◌<◌, ◌≤◌};
 
 use lines::print_word;

@@ -1,4 +1,6 @@
 // The reader: a listing, or a text that an editor wrote by its rules (docs/LISTING.md), to a sheet in a lent buffer.
+#![tactic(auto)]
+
 ghost use Rattle.std.specs.Prelude.{◌≡◌, ◌++◌, ◌+◌, ◌*◌, ◌≤◌, ◌<◌, min, length, drop};
 ghost use Rattle.text.specs.Fill.{Added};
 ghost use Rattle.reasons.specs.Reasons.{first_of, check_numbers};

@@ -1,4 +1,6 @@
 // The reasons that document 01 gives and document 02 adds, and what a check answers.
+#![tactic(auto)]
+
 ghost use Rattle.std.specs.Prelude.{◌≡◌};
 ghost use Rattle.reasons.specs.Reasons.{number_of, outcome_of, check_numbers};
 ghost use Rattle.reasons.specs.Output.{withheld};

@@ -1,4 +1,6 @@
 // Runs a sheet on a lent file of registers.
+#![tactic(auto)]
+
 ghost use Rattle.std.specs.Prelude.{◌≡◌, [], ◌∷◌, ℕ, ◌+◌, ◌-◌, ◌^◌, ◌≤◌, ◌<◌, min, length};
 ghost use Rattle.reasons.specs.Reasons.{outcome_of};
 ghost use Rattle.machine.specs.Status.{Good};

@@ -1,4 +1,6 @@
 // Sheets: the header, the words, and the reasons for which a sheet is refused.
+#![tactic(auto)]
+
 ghost use Rattle.std.specs.Prelude.{◌≡◌, ◌+◌, ◌*◌, ◌≤◌, length};
 ghost use Rattle.reasons.specs.Reasons.{first_of, none_hold, rows_by, check_numbers};
 ghost use Rattle.packing.specs.Registers.{Narrow};

@@ -1,5 +1,7 @@
 // Single-bit shift instructions (tables 8-1 and 8-2). `shift` is the family's dispatch, public for the chip's; the four operations
 // behind it take what stands at the chip, the source that the mnemonic names and the bit that is shifted in.
+#![tactic(auto)]
+
 ghost use Rattle.std.specs.Prelude.{◌≡◌, ◌%◌, ◌^◌, ◌<◌, ◌≤◌, get_or};
 ghost use Rattle.bits.specs.Bits.{sign_of};
 ghost use Rattle.machine.specs.Inputs.{Sound, bits_of};

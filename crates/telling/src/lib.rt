@@ -1,5 +1,7 @@
 // Refusals told to people: the trace's last line, and after it the reason's name, the place, and what was expected there. And what the programs
 // `list` and `assemble` do: a call, and its output or its refusal written.
+#![tactic(auto)]
+
 ghost use Rattle.std.specs.Prelude.{◌≡◌, ◌+◌, ◌≤◌, ◌<◌, ◌%◌, length};
 ghost use Rattle.text.specs.Text.{decimal_of};
 ghost use Rattle.text.specs.Ascii.{ascii};

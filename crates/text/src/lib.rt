@@ -1,4 +1,6 @@
 // Text: digits in arrays by value, and lines into a lent text.
+#![tactic(auto)]
+
 ghost use Rattle.std.specs.Prelude.{◌≡◌, ◌+◌, ◌≤◌, ◌<◌, length};
 ghost use Rattle.text.specs.Text.{digit_of, hex_of, decimal_of, binary_of};
 ghost use Rattle.text.specs.Fill.{Added};

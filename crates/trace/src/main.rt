@@ -1,5 +1,7 @@
 // The trace program: reads a sheet and its registers from standard input, and writes a line for each execution and a last line. The largest
 // valid input has 24,830 bytes, so one that fills the buffer has a wrong length.
+#![tactic(auto)]
+
 fn main() {
     let mut input = [0u8; 24832];
     let got = io::read_full(0, &mut input);

@@ -1,6 +1,8 @@
 // Traces of several inputs, one after another, each preceded by its length in four bytes, high first: the example sheets (examples/sheets), a sheet
 // of version 2, which is refused, a sheet without words, and one of 4,095 words drawn by the independent program. Its data are written by
 // oracle/traces.sh, the text by the independent program.
+#![tactic(auto)]
+
 ghost use Rattle.std.specs.Prelude.{◌+◌, ◌≤◌, length};
 ghost use Rattle.tracing.specs.Lines.{most_length};
 

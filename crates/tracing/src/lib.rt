@@ -1,5 +1,7 @@
 // The trace: an input checked and taken apart, its run shown an execution at a time, and all of its text in one lent buffer. The programs above
 // read an input, hand it to `trace`, and write what they get.
+#![tactic(auto)]
+
 ghost use Rattle.std.specs.Prelude.{◌≡◌, ◌+◌, ◌*◌, ◌≤◌, ◌<◌, length};
 ghost use Rattle.machine.specs.Status.{Good};
 ghost use Rattle.chip.specs.Lists.{state};

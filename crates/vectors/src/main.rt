@@ -1,5 +1,7 @@
 // Reads cases of the single word with the answers of the independent program, a line each (oracle/README.md has the line), and reports how
 // many the proved one misses and where the first miss is.
+#![tactic(auto)]
+
 ghost use Rattle.std.specs.Prelude.{◌≡◌, length};
 
 use chip::{SingleAnswer, SingleWord};
