@@ -27,7 +27,7 @@ use reasons::Outcome;
 
 // What a single word answers. The parity has a bit for each byte of Y, the highest byte's in bit 3; the pins C, Z, N, V and L are bits 4 to 0.
 #[repr(C)]
-#[derive(Drop)]
+#[derive(Clone, Copy)]
 pub struct Answer {
     pub outcome: Outcome,
     pub y: u32,
@@ -39,7 +39,7 @@ pub struct Answer {
 
 // What unpacking answers.
 #[repr(C)]
-#[derive(Drop)]
+#[derive(Clone, Copy)]
 pub struct Unpacked {
     pub outcome: Outcome,
     pub word: Word,
@@ -47,7 +47,7 @@ pub struct Unpacked {
 
 // What a header says: its three numbers are 0 where it is refused.
 #[repr(C)]
-#[derive(Drop)]
+#[derive(Clone, Copy)]
 pub struct Heading {
     pub outcome: Outcome,
     pub version: u32,
@@ -57,7 +57,7 @@ pub struct Heading {
 
 // What the lister and the reader answer: how many bytes they wrote, 0 where nothing was written.
 #[repr(C)]
-#[derive(Drop)]
+#[derive(Clone, Copy)]
 pub struct Wrote {
     pub outcome: Outcome,
     pub bytes: u64,
@@ -65,7 +65,7 @@ pub struct Wrote {
 
 // What a run answers: Q and status are those to go on from.
 #[repr(C)]
-#[derive(Drop)]
+#[derive(Clone, Copy)]
 pub struct Ran {
     pub outcome: Outcome,
     pub machine: Machine,
@@ -73,7 +73,7 @@ pub struct Ran {
 
 // What one word of a sheet answers: Y, its parity and the pins as a single word's, Q and status those to go on from.
 #[repr(C)]
-#[derive(Drop)]
+#[derive(Clone, Copy)]
 pub struct Stepped {
     pub outcome: Outcome,
     pub y: u32,
@@ -84,7 +84,7 @@ pub struct Stepped {
 
 // What an interrupted run answers. The mark says which sheet the fault is in: 0 neither, 1 main, 2 handler.
 #[repr(C)]
-#[derive(Drop)]
+#[derive(Clone, Copy)]
 pub struct Interrupted {
     pub outcome: Outcome,
     pub machine: Machine,

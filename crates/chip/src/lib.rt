@@ -16,7 +16,7 @@ use reasons::Reason;
 
 // The fields of one word of a sheet.
 #[repr(C)]
-#[derive(Drop)]
+#[derive(Clone, Copy)]
 pub struct Word {
     pub opcode: u32,
     pub code: u32,
@@ -35,7 +35,7 @@ pub struct Word {
 // A single word, with any values: its opcode and byte code, position and width, macro select, carry and link, borrow; the A and B
 // inputs; Q and the status register.
 #[repr(C)]
-#[derive(Drop)]
+#[derive(Clone, Copy)]
 pub struct SingleWord {
     pub opcode: u32,
     pub code: u32,
@@ -52,7 +52,7 @@ pub struct SingleWord {
 }
 
 // Its answer. The parity has a bit for each byte of Y, the highest byte's in bit 3; the pins C, Z, N, V and L are bits 4 to 0.
-#[derive(Drop)]
+#[derive(Clone, Copy)]
 pub struct SingleAnswer {
     pub reason: Reason,
     pub place: usize,
@@ -65,7 +65,7 @@ pub struct SingleAnswer {
 
 // An operation with a page in chapter 2: its family, and its place there. `Basic` are the instructions of the data movement, logical,
 // prioritize and arithmetic sections, which chapter 1 numbers from 00 and from 3C.
-#[derive(Drop)]
+#[derive(Clone, Copy)]
 pub enum Operation {
     Basic(u32),
     Shift(u32),
@@ -76,7 +76,7 @@ pub enum Operation {
 }
 
 // What an opcode number stands for.
-#[derive(Drop)]
+#[derive(Clone, Copy)]
 pub enum Decoded {
     Known(Operation),
     Opcode,

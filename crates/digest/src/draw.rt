@@ -6,7 +6,7 @@ use chip::SingleWord;
 const SYSTEMATIC: u32 = 73728;
 
 // A case of the single word, and the draw that says how it is run on registers, which is also the generator after the case.
-#[derive(Drop)]
+#[derive(Clone, Copy)]
 pub struct Case {
     pub word: SingleWord,
     pub how: u64,

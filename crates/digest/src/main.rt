@@ -14,7 +14,7 @@ use draw::Case;
 const CASES: u32 = 102400;
 
 // The sums of an opcode number's line: of the cases as single words, and of the same cases run on registers.
-#[derive(Drop)]
+#[derive(Clone, Copy)]
 pub struct Sums {
     pub single: u64,
     pub run: u64,

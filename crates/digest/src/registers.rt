@@ -8,7 +8,7 @@ use reasons::Check;
 use run::RunAnswer;
 
 // What a run is called with beside the sheet's bytes: how many of them, how many registers, the start and the allowance.
-#[derive(Drop)]
+#[derive(Clone, Copy)]
 pub struct Call {
     pub length: usize,
     pub lent: usize,

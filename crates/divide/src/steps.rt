@@ -8,7 +8,7 @@ ghost use Rattle.divide.specs.Steps.{formed, carry_out, step_carry, step_link, u
 use machine::Inputs;
 
 // F and the carry out of it.
-#[derive(Drop)]
+#[derive(Clone, Copy)]
 pub struct Formed {
     pub value: u32,
     pub carry: u32,

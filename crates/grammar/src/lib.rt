@@ -9,55 +9,55 @@ ghost use Rattle.grammar.specs.Scan.{start_of, solid_end, name_in, part_of, take
 use chip::Word;
 
 // What a part says: a number, or nothing that the grammar knows.
-#[derive(Drop)]
+#[derive(Clone, Copy)]
 pub enum Found {
     Number(u32),
     Nothing,
 }
 
 // What a word's line says.
-#[derive(Drop)]
+#[derive(Clone, Copy)]
 pub enum Line {
     Read(Word),
     Outside,
 }
 
 // What the first line says.
-#[derive(Drop)]
+#[derive(Clone, Copy)]
 pub enum Head {
     Declared { version: u32, registers: u32 },
     Outside,
 }
 
 // Where a part starts and ends.
-#[derive(Drop)]
+#[derive(Clone, Copy)]
 struct Part {
     from: usize,
     to: usize,
 }
 
 // A number, and where its part ends.
-#[derive(Drop)]
+#[derive(Clone, Copy)]
 enum Taken {
     Upto(u32, usize),
     Missing,
 }
 
 // Three numbers, and where the last one's part ends.
-#[derive(Drop)]
+#[derive(Clone, Copy)]
 enum Three {
     Numbers(u32, u32, u32, usize),
     Few,
 }
 
 // Whether a switch is on, and where the line goes on.
-#[derive(Drop)]
+#[derive(Clone, Copy)]
 struct Switch {
     on: u32,
     to: usize,
 }
 
-#[derive(Drop)]
+#[derive(Clone, Copy)]
 struct Switches {
     write: u32,
     select: u32,

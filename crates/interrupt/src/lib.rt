@@ -15,7 +15,7 @@ use run::Going;
 use sheet::Which;
 
 // Whether an interrupted run is refused: the mark of the sheet that the fault is in (0 neither, 1 main, 2 handler), the reason and its place.
-#[derive(Drop)]
+#[derive(Clone, Copy)]
 pub enum Verdict {
     Fine,
     Refused {
@@ -26,7 +26,7 @@ pub enum Verdict {
 }
 
 // What an interrupted run answers: done, with the number of words run as its place, or a refusal; Q and status.
-#[derive(Drop)]
+#[derive(Clone, Copy)]
 pub struct Served {
     pub mark: u32,
     pub reason: Reason,

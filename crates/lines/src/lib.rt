@@ -6,7 +6,7 @@ ghost use Rattle.std.specs.Prelude.{◌≡◌, true, ◌+◌, ◌≤◌, ◌<◌
 ghost use Rattle.lines.specs.Lines.{joined_of, number_of, number_at, filled_of, Taken, counted_of};
 
 // How many cases were tried and missed, and the number of the first that was missed, counted from 1; 0 if none was.
-#[derive(Drop)]
+#[derive(Clone, Copy)]
 pub struct Tally {
     pub cases: u32,
     pub missed: u32,

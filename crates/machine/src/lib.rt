@@ -12,7 +12,7 @@ ghost use Rattle.machine.specs.Pins.{pins_of};
 const CARRY_MODE: u32 = 0;
 
 // The status register as fields, without bits 13, 14, 15 and 23. Each flag is 0 or 1; the bit of nibble i is bit 4 i.
-#[derive(Drop)]
+#[derive(Clone, Copy)]
 pub struct Status {
     pub position: u32,
     pub width: u32,
@@ -28,14 +28,14 @@ pub struct Status {
 
 // Q and the status register as a caller holds them between runs: two words.
 #[repr(C)]
-#[derive(Drop)]
+#[derive(Clone, Copy)]
 pub struct Machine {
     pub q: u32,
     pub status: u32,
 }
 
 // What the chip keeps between two words: Q and the status register. Made from a `Machine` by `enter`, and into one again by `leave`.
-#[derive(Drop)]
+#[derive(Clone, Copy)]
 pub struct Core {
     pub q: u32,
     pub status: Status,
@@ -43,7 +43,7 @@ pub struct Core {
 
 // What a word meets: its byte code I8 I7, position and width, macro select, carry and link, borrow; the A and B inputs; Q and
 // the status register.
-#[derive(Drop)]
+#[derive(Clone, Copy)]
 pub struct Inputs {
     pub code: u32,
     pub position: u32,
@@ -59,7 +59,7 @@ pub struct Inputs {
 }
 
 // What it leaves: the Y bus, Q and the status register.
-#[derive(Drop)]
+#[derive(Clone, Copy)]
 pub struct Outputs {
     pub y: u32,
     pub q: u32,
@@ -67,7 +67,7 @@ pub struct Outputs {
 }
 
 // What one executed word shows: Y, its borrow switch, by which its status is read, and the core after it.
-#[derive(Drop)]
+#[derive(Clone, Copy)]
 pub struct Shown {
     pub y: u32,
     pub borrow: u32,

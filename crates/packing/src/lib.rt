@@ -11,7 +11,7 @@ use chip::Word;
 use reasons::{Check, Reason};
 
 // What unpacking answers: the word where the check is good, else all fields 0.
-#[derive(Drop)]
+#[derive(Clone, Copy)]
 pub struct Unpacked {
     pub check: Check,
     pub word: Word,

@@ -44,7 +44,7 @@ const ALLOWANCE: usize = 0x1000;
 const SDIVFIRST: usize = 2;
 
 // What a sheet is run for: a product; a quotient and remainder; those of a dividend of two bytes.
-#[derive(Drop)]
+#[derive(Clone, Copy)]
 pub enum List {
     Multiply,
     Divide,
@@ -52,7 +52,7 @@ pub enum List {
 }
 
 // Multiplier and multiplicand, or dividend and divisor, as numbers of two bytes, and the status before the list.
-#[derive(Drop)]
+#[derive(Clone, Copy)]
 pub struct Case {
     pub x: u32,
     pub y: u32,
@@ -60,7 +60,7 @@ pub struct Case {
 }
 
 // What a list left: whether it ran, the registers, Q and status.
-#[derive(Drop)]
+#[derive(Clone, Copy)]
 pub struct Left {
     pub ran: bool,
     pub file: [u32; 6],
@@ -69,7 +69,7 @@ pub struct Left {
 
 // How many pairs came out as arithmetic says, how many did not, how many of these have a dividend below 0, remainder 0 and an odd quotient, and a
 // sum over all that was left.
-#[derive(Drop)]
+#[derive(Clone, Copy)]
 pub struct Tally {
     pub right: u32,
     pub wrong: u32,
@@ -407,7 +407,7 @@ fn sweep_both(name: &[u8], sheet: &[u8], list: List) {
 // ---- what is told and not promised
 
 // Of divisor 0: how often the dividend ended in register 1, and how often register 2 was FF and 01.
-#[derive(Drop)]
+#[derive(Clone, Copy)]
 pub struct Zero {
     pub dividend: u32,
     pub ff: u32,

@@ -5,7 +5,7 @@ ghost use Rattle.std.specs.Prelude.{◌≡◌};
 ghost use Rattle.reasons.specs.Reasons.{number_of, outcome_of, check_numbers};
 ghost use Rattle.reasons.specs.Output.{withheld};
 
-#[derive(Drop)]
+#[derive(Clone, Copy)]
 pub enum Reason {
     Done,
     Opcode,
@@ -28,7 +28,7 @@ pub enum Reason {
 }
 
 // Nothing to refuse, or the reason and its place.
-#[derive(Drop)]
+#[derive(Clone, Copy)]
 pub enum Check {
     Good,
     Bad { reason: Reason, place: usize },
@@ -36,14 +36,14 @@ pub enum Check {
 
 // An answer in numbers: the paper's number of the reason, and the place, which is the number of words run where the reason is 0 and a sheet ran.
 #[repr(C)]
-#[derive(Drop)]
+#[derive(Clone, Copy)]
 pub struct Outcome {
     pub reason: u32,
     pub place: u64,
 }
 
 // What a call answers that writes into a lent buffer: how many bytes it wrote, 0 where it is refused.
-#[derive(Drop)]
+#[derive(Clone, Copy)]
 pub struct Output {
     pub check: Check,
     pub bytes: usize,

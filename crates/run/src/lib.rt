@@ -16,7 +16,7 @@ use reasons::{Check, Reason};
 use sheet::Which;
 
 // What a run answers: done, with the number of words run as its place, or the reason and place of a refusal; Q and status.
-#[derive(Drop)]
+#[derive(Clone, Copy)]
 pub struct RunAnswer {
     pub reason: Reason,
     pub place: usize,
@@ -25,7 +25,7 @@ pub struct RunAnswer {
 
 // What one word of a sheet answers: done, with the number of words run as its place, 1 or 0, or the reason and place of a refusal; Y, its
 // parity and the pins as a single word answers them; Q and status.
-#[derive(Drop)]
+#[derive(Clone, Copy)]
 pub struct StepAnswer {
     pub reason: Reason,
     pub place: usize,
@@ -36,7 +36,7 @@ pub struct StepAnswer {
 }
 
 // What the chip keeps while words run, and how many have run.
-#[derive(Drop)]
+#[derive(Clone, Copy)]
 pub struct Going {
     pub core: Core,
     pub count: usize,

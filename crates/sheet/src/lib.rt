@@ -11,21 +11,21 @@ use chip::Word;
 use reasons::{Check, Reason};
 
 // Which of two lent sheets a word comes from.
-#[derive(Drop)]
+#[derive(Clone, Copy)]
 pub enum Which {
     Main,
     Handler,
 }
 
 // A number that a call may hand in beside a sheet: the registers lent, the start word.
-#[derive(Drop)]
+#[derive(Clone, Copy)]
 pub enum Given {
     Absent,
     Number(usize),
 }
 
 // What a header says: its three numbers where the check is good, else 0.
-#[derive(Drop)]
+#[derive(Clone, Copy)]
 pub struct Heading {
     pub check: Check,
     pub version: u32,

@@ -5,9 +5,7 @@ use lib.Bits.{bit_or, bit_xor}
 use lib.Dec.{lit<}
 use Rattle.bits.specs.Bits.{choose, xor}
 use Rattle.bits.proofs.BitByBit.{by_flag, by_flags}
-use borrow.Author.Rules.{rules}
-use Rattle.machine.proofs.Status.flags.Statement.{statement}
-use Rattle.machine.proofs.Status.flags.Tie as tie
+use Rattle.machine.proofs.Status.flags.Goals as goal
 
 abbrev made : ℕ → ℕ → ℕ → ℕ → ℕ → ℕ
 made turned n v c z = bit_or (bit_or (bit_xor (n * 0x2_c000) (v * 0x4_c000)) (bit_xor (c * 0x1_2000) turned)) (z * 0x8_a000)
@@ -39,11 +37,7 @@ every : (borrow n v c z : ℕ) → n < 2 → v < 2 → c < 2 → z < 2 → Right
 every zero n v c z hn hv hc hz = right n v c hn hv hc 0 z (lit< tt) hz
 every (suc k) n v c z hn hv hc hz = right n v c hn hv hc 1 z (lit< tt) hz
 
-returns : tie.Need-returns
-returns c =
-    let z = c.before.before.before.before.before in
+pub returns : goal.returns
+returns c = let z = c in
     let s = z.args.self in
-    rw c.before.before.before.before.turn.ensures (every z.args.borrow s.n s.v s.c s.z z.requires.n z.requires.v z.requires.c z.requires.z)
-
-pub flags-spec : {M : Type 1} → statement M
-flags-spec = tie.close (tie.spec (search rules) (search rules) (search rules) (search rules) (search rules) returns)
+    rw c.turn-turned.ensures (every z.args.borrow s.n s.v s.c s.z z.requires.n z.requires.v z.requires.c z.requires.z)

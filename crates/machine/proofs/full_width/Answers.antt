@@ -3,16 +3,11 @@ use mathlib.Core.Path.{◌≡◌, refl}
 use Prim.Native.Nat.{ℕ, zero, suc, ◌-◌, ◌%◌, ◌≤◌, ◌<◌}
 use native.Mathlib.Omega.{arith}
 use Rattle.machine.specs.Inputs.{full_width}
-use borrow.Author.Rules.{rules}
-use Rattle.machine.proofs.full_width.Statement.{statement}
-use Rattle.machine.proofs.full_width.Tie as tie
+use Rattle.machine.proofs.full_width.Goals as goal
 
 counted : (w : ℕ) → w < 32 → (32 - (32 - w) % 32 ≡ full_width w) × (1 ≤ 32 - (32 - w) % 32) × (32 - (32 - w) % 32 ≤ 32)
 counted zero h = (refl, omega arith, omega arith)
 counted (suc w) h = (omega arith, omega arith, omega arith)
 
-returns : tie.Need-returns
+pub returns : goal.returns
 returns c = counted c.args.w (omega arith)
-
-pub full-width-spec : {M : Type 1} → statement M
-full-width-spec = tie.close (tie.spec (search rules) (search rules) returns)

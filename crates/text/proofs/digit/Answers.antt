@@ -1,0 +1,12 @@
+-- A test and a sum, as the definition has them.
+use borrow.Author.Tests.{lt-ltb, le-ltb}
+use Rattle.text.specs.Text.{digit_of}
+use Rattle.text.proofs.digit.Goals as goal
+
+pub returns-then-d-lt10 : goal.returns-then-d-lt10
+unfolding digit_of
+returns-then-d-lt10 c = rw (lt-ltb _ _ c.if-d-lt10.true)
+
+pub returns : goal.returns
+unfolding digit_of
+returns c = rw (le-ltb _ _ c.if-d-lt10.false)
