@@ -29,12 +29,15 @@ pub past_below : (x n : ℕ) → NoneBelow x n → n ≤ x
 past_below x zero r = zero-le
 past_below x (suc n) r = let h : n ≤ x = past_below x n r.0 in let ne : x ≡ n → ⊥ = r.1 in omega arith
 
--- a table whose last entry is entry m, read with that as its default: past all others it is that entry
-pub last_entry : {A : Type 0} (xs : List A) (d : A) (m k : ℕ) → drop m xs ≡ d ∷ [] → NoneBelow k m → get_or xs k d ≡ d
-last_entry {A = A} xs d m k e r =
-    let h : m ≤ k = past_below k m r in
+-- a table whose last entry is entry m, read at m or past it with that entry as its default, is that entry
+pub last_entry_past : {A : Type 0} (xs : List A) (d : A) (m k : ℕ) → drop m xs ≡ d ∷ [] → m ≤ k → get_or xs k d ≡ d
+last_entry_past {A = A} xs d m k e h =
     ap (λ (i : ℕ). get_or xs i d) (omega arith) ∙ sym (get_or-drop m xs (k - m) d) ∙ ap (λ (ys : List A). get_or ys (k - m) d) e ∙ only (k - m)
   where
     only : (i : ℕ) → get_or (d ∷ []) i d ≡ d
     only zero = refl
     only (suc i) = refl
+
+-- the same of a number that is none of those below m
+pub last_entry : {A : Type 0} (xs : List A) (d : A) (m k : ℕ) → drop m xs ≡ d ∷ [] → NoneBelow k m → get_or xs k d ≡ d
+last_entry xs d m k e r = last_entry_past xs d m k e (past_below k m r)

@@ -1,0 +1,7 @@
+-- Q over B.
+use Rattle.movement.specs.DataMovement.{PASS-Q}
+use Rattle.movement.proofs.pass_q.Goals as goal
+
+pub returns : goal.returns
+unfolding PASS-Q
+returns c = rw (c.merge.ensures, c.bits-n.ensures.0)
