@@ -9,9 +9,9 @@ admit-requires c = sym c.in-Known.ensures
 pub returns-in-Opcode : goal.returns-in-Opcode
 returns-in-Opcode c =
     let p = promised c.args.s (omega arith) (omega arith) (omega arith) _ (c.refuse.ensures ∙ refused-opcode c.args.s (sym c.in-Opcode.ensures)) in
-    record { value = p.0; numbers = p.1; pins = p.2 }
+    record { value = p.0; numbers = p.1.0; pins = p.1.1 }
 
 pub returns-in-Known : goal.returns-in-Known
 returns-in-Known c =
     let p = promised c.args.s (omega arith) (omega arith) (omega arith) _ c.admit.ensures in
-    record { value = p.0; numbers = p.1; pins = p.2 }
+    record { value = p.0; numbers = p.1.0; pins = p.1.1 }
