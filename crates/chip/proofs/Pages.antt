@@ -2,7 +2,7 @@
 -- page.
 use mathlib.Core.Path.{◌≡◌, refl, sym, ap, ◌∙◌}
 use mathlib.Core.List.{List, [], ◌∷◌}
-use Prim.Native.Nat.{ℕ, zero, suc}
+use Prim.Native.Nat.{◌≤◌, ℕ, zero, suc}
 use lib.ListN.{get_or, get_or-eq_default}
 use Rattle.bits.proofs.Rest.{NoneBelow, past_below}
 use Rattle.machine.specs.declared.Inputs.{Inputs}
@@ -52,7 +52,11 @@ pub at : {n k : ℕ} {r : Outputs} (x : Inputs) → n ≡ k → r ≡ following 
 unfolding perform_of
 at x e h = h ∙ sym (ap (λ (m : ℕ). following (page_of m) x) e)
 
--- past the last number there is no page
-pub past_all : {r : Outputs} (n : ℕ) (x : Inputs) → NoneBelow n 128 → r ≡ leaving x 0 x.status → r ≡ perform_of n x
+-- past all 128 there is no page
+pub past_glossary : {r : Outputs} (n : ℕ) (x : Inputs) → 128 ≤ n → r ≡ leaving x 0 x.status → r ≡ perform_of n x
 unfolding perform_of
-past_all n x rest h = h ∙ sym (ap (λ (p : Page). following p x) (get_or-eq_default glossary no_page {n = n} (past_below n 128 rest)))
+past_glossary n x l h = h ∙ sym (ap (λ (p : Page). following p x) (get_or-eq_default glossary no_page {n = n} l))
+
+-- the same of a number that is none of theirs
+pub past_all : {r : Outputs} (n : ℕ) (x : Inputs) → NoneBelow n 128 → r ≡ leaving x 0 x.status → r ≡ perform_of n x
+past_all n x rest h = past_glossary n x (past_below n 128 rest) h

@@ -3,12 +3,7 @@ use mathlib.Core.Path.{ap, ◌∙◌}
 use Prim.Native.Nat.{ℕ, ◌%◌, ◌^◌}
 use native.Mathlib.Nat.{one-mul, mod-eq_of_lt}
 use lib.Pow.{pow-lt}
-use borrow.Author.Rules.{rules}
-use Rattle.packing.proofs.only.Statement.{statement}
-use Rattle.packing.proofs.only.Tie as tie
+use Rattle.packing.proofs.only.Goals as goal
 
-returns : tie.Need-returns
+pub returns : goal.returns
 returns c = ap (λ (x : ℕ). x % 2 ^ 64) (one-mul (2 ^ c.args.r)) ∙ mod-eq_of_lt (pow-lt c.requires)
-
-pub only-spec : {M : Type 1} → statement M
-only-spec = tie.close (tie.spec (search rules) returns)
