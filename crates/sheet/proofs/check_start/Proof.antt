@@ -1,9 +1,0 @@
--- The check, and its numbers.
-use Rattle.reasons.specs.Reasons.{check_numbers}
-use Rattle.reasons.proofs.Numbers.{also}
-use borrow.Author.Rules.{rules}
-use Rattle.sheet.proofs.check_start.Statement.{statement}
-use Rattle.sheet.proofs.check_start.Tie as tie
-
-pub check-start-spec : {M : Type 1} → statement M
-check-start-spec = tie.close (tie.spec (search rules) (λ c. also check_numbers c.check.ensures))
