@@ -27,7 +27,7 @@ form_short h n e i = rw (← e, lt-ltb n 6 i) refl
 pub form_long : (h : List ℕ) (n : ℕ) (w v : Word) (c : Check) → n ≡ words_of h → 6 ≤ n → w ≡ word_at h 0 → v ≡ word_at h 1
     → c ≡ first_of (rows_by (form_row h n w.y v.y) 0 n) → c ≡ form_of h
 unfolding form_of
-form_long h n w v c e i f g k = k ∙ rw (f, g, ← e, le-ltb n 6 i) refl
+form_long h n w v c e i f g k = k ∙ rw (f, g, e, le-ltb (words_of h) 6 (rw e at i)) refl
 
 -- a handler on its own
 pub handler_own : (h : List ℕ) (r : Reason) (p : ℕ) → check_of h Absent Absent ≡ Bad r p → Bad r p ≡ handler_of h

@@ -6,9 +6,7 @@ use Rattle.machine.specs.Core.{taken}
 use Rattle.chip.specs.declared.Word.{Word}
 use Rattle.chip.specs.declared.SingleWord.{SingleWord}
 use Rattle.chip.proofs.Files.{inputs_read}
-use borrow.Author.Rules.{rules}
-use Rattle.run.proofs.at_chip.Statement.{statement}
-use Rattle.run.proofs.at_chip.Tie as tie
+use Rattle.run.proofs.at_chip.Goals as goal
 
 -- what stands at the chip as inputs, as a single word
 abbrev single : Word → Machine → Inputs → SingleWord
@@ -28,12 +26,6 @@ single w m x =
       status = m.status;
     }
 
-returns : tie.Need-returns
-returns c =
-    let a = c.before.before.before.before.args in
+pub returns : goal.returns
+returns c = let a = c.args in
     ap (single a.word a.machine) (inputs_read a.word a.file.now (taken a.machine))
-
-pub at-chip-spec : {M : Type 1} → statement M
-at-chip-spec =
-    tie.close
-    (tie.spec (search rules) (search rules) (search rules) (search rules) (search rules) (search rules) returns)
