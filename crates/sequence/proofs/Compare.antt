@@ -31,7 +31,7 @@ use Rattle.sheet.specs.Sheet.{WordReady}
 use Rattle.run.specs.Run.{Sane}
 use Rattle.run.proofs.Laws.{word_sound}
 use Rattle.sequence.specs.Signed.{signed}
-use Rattle.sequence.specs.Compare.{unsigned_at_most, signed_less, Compared, Compares, Compares.by-SUB, Compares.by-SUBR, Picks}
+use Rattle.sequence.specs.Compare.{unsigned_at_most, signed_less, Compared, Compares, Compares.by_SUB, Compares.by_SUBR, Picks}
 use Rattle.sequence.proofs.Integers.{sub-less, signed_once, signed_same}
 use Rattle.sequence.proofs.Lists.{not-cut}
 use Rattle.sequence.proofs.Relational.{relational}

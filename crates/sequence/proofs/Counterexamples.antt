@@ -23,7 +23,7 @@ use Rattle.chip.specs.Lists.{State, state, read_at, store_at, step_of, execs}
 use Rattle.sequence.specs.Signed.{signed, signed_long}
 use Rattle.sequence.specs.Sequences.{Registers, Unread, word_of, looking, words_of, times, bits_in, code_of, multiply_opcodes, divide_opcodes, signed_multiply_opcodes, signed_divide_opcodes, single_divide_words}
 use Rattle.sequence.specs.Results.{multiplied_status, divided_status}
-use Rattle.sequence.specs.Decimal.{value, Side.at-A, Fields, Layout, decimal_words, summed_status}
+use Rattle.sequence.specs.Decimal.{value, Side.at_A, Fields, Layout, decimal_words, summed_status}
 
 -- register 0 with a, register 1 and the status register at zero, and q in Q
 abbrev given : ℕ → ℕ → State

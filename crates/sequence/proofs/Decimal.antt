@@ -16,7 +16,7 @@ use Rattle.arithmetic.specs.Arithmetic.{sum, difference, borrow_in}
 use Rattle.arithmetic.specs.Decimal.{sum_correct, diff_correct}
 use Rattle.chip.specs.Glossary.{perform_of}
 use Rattle.chip.specs.Lists.{State, state, read_at, store_at, inputs_of, step_of, execs}
-use Rattle.sequence.specs.Decimal.{Digits, value, decimal_carry, decimal_borrow, DecimalOperation, additions, subtractions, Side, Side.at-A, Side.at-B, Layout, word_with, calculation, correction_at, sum_words, difference_words, selected_bits, selected_digits, facing, OfDigits, Elsewhere, DecimalSum, DecimalDifference, Summed, TakenAway, SumExact, DifferenceExact, Each}
+use Rattle.sequence.specs.Decimal.{Digits, value, decimal_carry, decimal_borrow, DecimalOperation, additions, subtractions, Side, Side.at_A, Side.at_B, Layout, word_with, calculation, correction_at, sum_words, difference_words, selected_bits, selected_digits, facing, OfDigits, Elsewhere, DecimalSum, DecimalDifference, Summed, TakenAway, SumExact, DifferenceExact, Each}
 use Rattle.chip.proofs.Files.{store_length, read_same, read-other}
 use Rattle.sequence.proofs.Lists.{merged-low, merged-high, zero-sign-low}
 use Rattle.sequence.proofs.DecimalNumbers.{SumCorrected, DiffCorrected, borrow_is, digits-fewer}

@@ -26,7 +26,7 @@ use Rattle.run.proofs.Parts.{run_is, entering_sane, back}
 use Rattle.sequence.specs.Signed.{Fits}
 use Rattle.sequence.specs.Sequences.{Ignored, Registers, Different, Unread, bits_in, words_of as listed, multiply_words, divide_words, signed_multiply_words, signed_divide_words, single_divide_words}
 use Rattle.sequence.specs.Results.{register, signed_in, long_dividend, TooLarge, Multiplied, Divided, SignedMultiplied, SignedDivided}
-use Rattle.sequence.specs.Decimal.{DecimalOperation, additions, subtractions, Side, Side.at-A, Side.at-B, Layout, calculation, correction_at, decimal_words, sum_words, difference_words, facing, Summed, TakenAway, SumExact, DifferenceExact, Each}
+use Rattle.sequence.specs.Decimal.{DecimalOperation, additions, subtractions, Side, Side.at_A, Side.at_B, Layout, calculation, correction_at, decimal_words, sum_words, difference_words, facing, Summed, TakenAway, SumExact, DifferenceExact, Each}
 use Rattle.sequence.specs.Compare.{unsigned_at_most, Compared, Compares, Picks}
 use Rattle.sequence.specs.OnSheets.{Stands, Accepted, handed, run_on, SumOnSheet, DifferenceOnSheet}
 use Rattle.sequence.proofs.Multiply.{multiply-exact, signed-multiply-exact}

@@ -17,7 +17,7 @@ use Rattle.sequence.proofs.Integers.{pos_sub, neg_sub, sub_same, sub-sum, sub-pr
 use Rattle.sequence.proofs.Lists.{sign_top, halved}
 use Rattle.sequence.proofs.TopBit.{top, top-low, top-high, Top, Top.clear, Top.full, top_is}
 use Rattle.sequence.proofs.SignedDivideNumbers.{Divisor}
-use Rattle.sequence.proofs.SignedCorrections.{residue, Size, Size.as-it-is, Size.complemented}
+use Rattle.sequence.proofs.SignedCorrections.{residue, Size, Size.as_it_is, Size.complemented}
 
 -- v, or minus v where f is 1
 abbrev pub sized : ℕ → ℕ → ℤ

@@ -27,7 +27,7 @@ use Rattle.sequence.proofs.Lists.{view, merged-low, merged-high, sign_top, halve
 use Rattle.sequence.proofs.TopBit.{top, top_lt}
 use Rattle.sequence.proofs.DivideNumbers.{operand_of}
 use Rattle.sequence.proofs.SignedDivideNumbers.{Divisor, Out}
-use Rattle.sequence.proofs.SignedCorrections.{residue, by_one, is_zero, not-zero, sign_for, special_z, Corrected, Size, Size.as-it-is, Size.complemented, Begun, begun, end-corrected}
+use Rattle.sequence.proofs.SignedCorrections.{residue, by_one, is_zero, not-zero, sign_for, special_z, Corrected, Size, Size.as_it_is, Size.complemented, Begun, begun, end-corrected}
 use Rattle.sequence.proofs.SignedSteps.{Stepped}
 use Rattle.sequence.proofs.SignedFlags.{flagged, five, special_is, sign_for_lem}
 use Rattle.sequence.proofs.SignedTail.{tests, remainder_tests, quotient, remainder, carry, counted, three, quotient-low, remainder-low, carry-low, overflow-low}
