@@ -20,7 +20,7 @@ trace_word-core-requires c = let z = c in
 
 pub loop-index-preserved : goal.loop-index-preserved
 loop-index-preserved c = let z = c in
-    filling_more c.loop-index.invariant _ _ _ (omega (arith, c.loop-index-test.true, c.executions-n.ensures)) c.trace_word-core.auto.1.1.0 c.trace_word-core.auto.1.1.1.1.0 c.trace_word-core.ensures
+    filling_more c.loop-index.invariant _ _ _ (omega (arith, c.loop-index-test.true, c.executions-n.ensures)) c.trace_word-core.auto.file c.trace_word-core.auto.text c.trace_word-core.ensures
 
 pub overflow_mul-result : goal.overflow_mul-result
 overflow_mul-result c = omega (arith, c.loop-index.invariant.upto, executions-length c.args.sheet.now, c.requires.1)

@@ -22,7 +22,8 @@ trace_run-requires c = let k = c in
     (passed, room _ _ _ c.declared-registers.ensures refl (input_ready z.args.input.now passed _ refl).few, z.requires)
 
 pub slice_bounds-file-end : goal.slice_bounds-file-end
-slice_bounds-file-end = part-file-end
+slice_bounds-file-end c =
+    omega (arith, c.declared-registers.ensures, (input_ready c.args.input.now (sym c.check_input-check.ensures ∙ c.in_default.is) _ refl).few)
 
 pub returns : goal.returns
 returns c = c.trace_run.ensures

@@ -15,7 +15,7 @@ load-requires c = let z = c in
 
 pub fill-at-requires : goal.fill-at-requires
 fill-at-requires c = let z = c in (
-  input_ready z.args.input.now z.requires.0 _ (c.load.auto.1.1.0 ∙ z.requires.1),
+  input_ready z.args.input.now z.requires.0 _ (c.load.auto.file ∙ z.requires.1),
   omega (arith, words_few z.args.input.now, z.requires.2),
 )
 
@@ -26,7 +26,7 @@ executions-requires c = let z = c in
 pub put_last-requires : goal.put_last-requires
 put_last-requires c = let z = c in
     let f = c.fill-at in
-    omega (arith, f.auto.1.1.0, filled-length _ _ f.ensures, words_few z.args.input.now, z.requires.2)
+    omega (arith, f.auto.text, filled-length _ _ f.ensures, words_few z.args.input.now, z.requires.2)
 
 pub returns : goal.returns
 returns c = let z = c in
