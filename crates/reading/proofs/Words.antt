@@ -1,7 +1,7 @@
 -- The fields of a line that was checked fit a word.
 use mathlib.Core.Path.{◌≡◌, refl}
 use mathlib.Core.List.{List, [], ◌∷◌}
-use mathlib.Core.Bool.{true, false, true≢false}
+use mathlib.Core.Bool.{true≢false}
 use Prim.Native.Nat.{ℕ, ◌+◌}
 use Rattle.reasons.specs.Reasons.{Row, first_of}
 use Rattle.reasons.specs.declared.Check.TheVariants.{Good}

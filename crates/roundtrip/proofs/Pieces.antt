@@ -93,6 +93,7 @@ spaced (p ∷ ps) = space ∷ (p ++ spaced ps)
 -- a line of parts comes apart into them, in capitals
 pub parts_back : (p : List ℕ) (ps : List (List ℕ)) → Parts (p ∷ ps) → parts_of (p ++ spaced ps) ≡ map (map capital) (p ∷ ps)
 unfolding parts_of
+parts_back [] ps x = elim x [ ]
 parts_back (c ∷ p) [] (more h n) =
     ap parts_of (append-nil (c ∷ p)) ∙ ap filled (last_piece blank (capital c) (map capital p) (no_blank (c ∷ p) h))
 parts_back (c ∷ p) (q ∷ qs) (more h n) =

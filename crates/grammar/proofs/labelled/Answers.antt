@@ -1,17 +1,16 @@
 -- The definition's two cases.
 use mathlib.Core.Path.{sym, ◌∙◌}
-use borrow.Author.Tests.{not-true, not-false}
 use Rattle.grammar.proofs.Names.{labelled-room, labelled_is, labelled-not}
 use Rattle.grammar.proofs.labelled.Goals as goal
 
 pub returns-then-not-starts_with : goal.returns-then-not-starts_with
 returns-then-not-starts_with c = let a = c.args in
-    labelled-not a.name.now a.part.now (sym c.starts_with.ensures ∙ not-true _ c.if-not-starts_with.true)
+    labelled-not a.name.now a.part.now (sym c.starts_with.ensures ∙ c.if-not-starts_with.true)
 
 pub number-requires : goal.number-requires
 number-requires c = let a = c.args in
-    labelled-room a.name.now a.part.now (sym c.starts_with.ensures ∙ not-false _ c.if-not-starts_with.false)
+    labelled-room a.name.now a.part.now (sym c.starts_with.ensures ∙ c.if-not-starts_with.false)
 
 pub returns : goal.returns
 returns c = let a = c.args in
-    c.number.ensures ∙ labelled_is a.name.now a.part.now (sym c.starts_with.ensures ∙ not-false _ c.if-not-starts_with.false)
+    c.number.ensures ∙ labelled_is a.name.now a.part.now (sym c.starts_with.ensures ∙ c.if-not-starts_with.false)

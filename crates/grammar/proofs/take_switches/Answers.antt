@@ -7,23 +7,25 @@ pub take_switch-select-requires : goal.take_switch-select-requires
 take_switch-select-requires c = rw c.take_switch-write.ensures (switch_within _ _ _ c.requires)
 
 pub take_switch-carry-requires : goal.take_switch-carry-requires
-take_switch-carry-requires c = rw c.take_switch-select.ensures (switch_within _ _ _ (take_switch-select-requires c κs))
+take_switch-carry-requires c = rw (c.take_switch-select.ensures, c.take_switch-write.ensures) (switch_within _ _ _ (switch_within _ _ _ c.requires))
 
 pub take_switch-link-requires : goal.take_switch-link-requires
-take_switch-link-requires c = rw c.take_switch-carry.ensures (switch_within _ _ _ (take_switch-carry-requires c κs))
+take_switch-link-requires c =
+    rw (c.take_switch-carry.ensures, c.take_switch-select.ensures, c.take_switch-write.ensures)
+    (switch_within _ _ _ (switch_within _ _ _ (switch_within _ _ _ c.requires)))
 
 pub take_switch-borrow-requires : goal.take_switch-borrow-requires
-take_switch-borrow-requires c = rw c.take_switch-link.ensures (switch_within _ _ _ (take_switch-link-requires c κs))
+take_switch-borrow-requires c =
+    rw (c.take_switch-link.ensures, c.take_switch-carry.ensures, c.take_switch-select.ensures, c.take_switch-write.ensures)
+    (switch_within _ _ _ (switch_within _ _ _ (switch_within _ _ _ (switch_within _ _ _ c.requires))))
 
 pub returns : goal.returns
 unfolding switches_at
-returns c = let l = c in
-    let k = l in
-    let s = k in
+returns c =
     rw (
       c.take_switch-borrow.ensures,
-      l.take_switch-link.ensures,
-      k.take_switch-carry.ensures,
-      s.take_switch-select.ensures,
-      s.take_switch-write.ensures,
+      c.take_switch-link.ensures,
+      c.take_switch-carry.ensures,
+      c.take_switch-select.ensures,
+      c.take_switch-write.ensures,
     )
