@@ -12,7 +12,7 @@ use Rattle.reasons.specs.declared.Reason.TheVariants.{Done, Opcode, Inputs as In
 use Rattle.reasons.specs.declared.Check.{Check}
 use Rattle.reasons.specs.declared.Check.TheVariants.{Good, Bad}
 use Rattle.reasons.specs.declared.Outcome.{Outcome}
-use Rattle.reasons.specs.Reasons.{Row, ◌gives◌at◌, first_of, outcome_of, check_numbers}
+use Rattle.reasons.specs.Reasons.{Row, ◌gives◌at◌, first_of, check_numbers}
 use Rattle.chip.specs.declared.SingleWord.{SingleWord}
 use Rattle.chip.specs.declared.SingleAnswer.{SingleAnswer}
 use Rattle.chip.specs.Glossary.{Page, page_of, perform_of}

@@ -1,6 +1,6 @@
 -- A run of a sheet on a lent file of registers (document 01, 'Sheets and words' and 'Reasons given'): refused with all as it was, or its
 -- executions one after another from a start on.
-use Rattle.std.specs.Prelude.{◌≡◌, List, [], ℕ, ◌+◌, ◌^◌, ◌<◌, length, take, drop}
+use Rattle.std.specs.Prelude.{◌≡◌, List, ℕ, ◌+◌, ◌^◌, ◌<◌, length, take, drop}
 use Rattle.machine.specs.declared.Machine.{Machine}
 use Rattle.machine.specs.declared.Shown.{Shown}
 use Rattle.machine.specs.Status.{Good}

@@ -1,7 +1,7 @@
 -- The table of a sheet: how a check goes through it, that each reason is given exactly when its condition holds and no earlier one does, and
 -- what a sheet that passed has.
 use mathlib.Core.Path.{◌≡◌, refl, ap, ◌∙◌, sym}
-use mathlib.Core.List.{List, [], ◌++◌}
+use mathlib.Core.List.{List, ◌++◌}
 use mathlib.Core.Bool.{Bool, false, ◌||◌}
 use Prim.Native.Nat.{ℕ, ◌+◌, ◌*◌, ◌≤◌, ◌<◌}
 use native.Mathlib.Omega.{arith}
@@ -17,7 +17,7 @@ use Rattle.reasons.proofs.Rows.{None, First, good_none, first_bad, first_good, e
 use Rattle.reasons.proofs.Rows.None.{none, more}
 use Rattle.sheet.specs.declared.Given.{Given}
 use Rattle.sheet.specs.declared.Given.TheVariants.{Absent, Number}
-use Rattle.packing.specs.Packing.{some, register_fields, differ}
+use Rattle.packing.specs.Packing.{register_fields, differ}
 use Rattle.sheet.specs.Sheet.{number4, count_of, registers_of, zeros_of, words_of, declared_of, part_of, number_at, word_at, executions_of, fewer, number_rows, word_rows, head_rows, start_rows, rows_beside, check_beside, sheet_rows, check_of, input_of, WordReady, Ready}
 use Rattle.packing.proofs.Numbers.{page_small, or_left, or_right, Every, every, fields_range}
 use Rattle.packing.proofs.Numbers.Every.{end, and}

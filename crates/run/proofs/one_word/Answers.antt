@@ -11,7 +11,7 @@ use Rattle.reasons.specs.declared.Reason.TheVariants.{Done}
 use Rattle.chip.specs.declared.Word.{Word}
 use Rattle.chip.proofs.Files.{read_small}
 use Rattle.sheet.specs.declared.Given.TheVariants.{Number}
-use Rattle.sheet.specs.Sheet.{word_at, executions_of, WordReady}
+use Rattle.sheet.specs.Sheet.{executions_of, WordReady}
 use Rattle.sheet.proofs.Positions.{executions-length, executions-next}
 use Rattle.sheet.proofs.Table.{ready}
 use Rattle.run.specs.declared.StepAnswer.{StepAnswer}

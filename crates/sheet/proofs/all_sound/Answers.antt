@@ -3,7 +3,6 @@ use mathlib.Core.Path.{◌≡◌, refl, sym, ◌∙◌}
 use mathlib.Core.Bool.{true}
 use Prim.Native.Nat.{◌-◌}
 use native.Mathlib.Omega.{arith}
-use borrow.Author.Tests.{not-true, not-false}
 use Rattle.reasons.proofs.Rows.{rows_hold}
 use Rattle.sheet.specs.Sheet.{word_rows}
 use Rattle.sheet.proofs.Table.{seen_word}
