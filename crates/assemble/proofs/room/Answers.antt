@@ -2,14 +2,10 @@
 use mathlib.Core.Path.{◌≡◌, sym}
 use Prim.Native.Nat.{ℕ}
 use lib.ListN.{length, replicate, length-replicate}
-use Rattle.assemble.proofs.room.Statement.{statement}
-use Rattle.assemble.proofs.room.Tie as tie
+use Rattle.assemble.proofs.room.Goals as goal
 
 zeros : (n byte : ℕ) → n ≡ length (replicate n byte)
 zeros n byte = sym (length-replicate n byte)
 
-returns : tie.Need-returns
+pub returns : goal.returns
 returns c = zeros 1048576 0
-
-pub room-spec : {M : Type 1} → statement M
-room-spec = tie.close (tie.spec returns)
