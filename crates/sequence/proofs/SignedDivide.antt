@@ -2,12 +2,11 @@
 use mathlib.Core.Path.{◌≡◌, sym, ap, ◌∙◌, subst}
 use mathlib.Core.Logic.{◌≢◌}
 use mathlib.Core.List.{List, [], ◌∷◌, ◌++◌}
-use Prim.Native.Nat.{ℕ, zero, ◌+◌, ◌-◌, ◌≤◌, ◌<◌}
+use Prim.Native.Nat.{ℕ, ◌≤◌, ◌<◌}
 use native.Mathlib.Nat.{pos_of_ne-zero}
 use native.Mathlib.Omega.{arith}
 use lib.ListN.{length}
 use lib.Signed.{quot_z}
-use Rattle.bits.specs.Bits.{selected}
 use Rattle.machine.specs.Status.{Good}
 use Rattle.chip.specs.declared.Word.{Word}
 use Rattle.chip.specs.Lists.{State, execs}
@@ -18,7 +17,7 @@ use Rattle.sheet.proofs.Positions.All.{none, more}
 use Rattle.run.specs.Run.{Sane}
 use Rattle.run.proofs.Laws.{execs_sane}
 use Rattle.sequence.specs.Signed.{Fits}
-use Rattle.sequence.specs.Sequences.{Ignored, Registers, Different, Unread, bits_in, code_of, words_of, times, correction_words, signed_divide_opcodes, signed_divide_words}
+use Rattle.sequence.specs.Sequences.{Ignored, Registers, Different, Unread, bits_in, code_of, words_of, correction_words, signed_divide_opcodes, signed_divide_words}
 use Rattle.sequence.specs.Results.{register, signed_in, long_dividend, SignedDivided}
 use Rattle.sequence.proofs.Lists.{bits_of_bytes}
 use Rattle.sequence.proofs.SignedSteps.{signed_steps}
