@@ -277,7 +277,7 @@ def check_symbols(declared):
     """The symbols of the archive, where there is one."""
     nm = shutil.which("nm") or shutil.which("llvm-nm")
     if not os.path.exists(os.path.join(ROOT, ARCHIVE)) or not nm:
-        return "no symbols (%s)" % ("there is no nm" if not nm else "rt lib has not been run in crates/am29332")
+        return "no symbols (%s)" % ("there is no nm" if not nm else "tools/build.sh am29332 has not been run")
     listed = subprocess.run([nm, "-g", "--defined-only", os.path.join(ROOT, ARCHIVE)], stdout=subprocess.PIPE, text=True, check=True).stdout
     symbols = set(re.findall(r"^\w+ [A-Z] (\S+)$", listed, re.M))
     for name in sorted(symbols - declared.keys()):

@@ -1,5 +1,5 @@
 #!/usr/bin/env python3
-"""Tells what memory the built library needs. Works from any directory, after rt staticlib am29332:
+"""Tells what memory the built library needs. Works from any directory, after tools/build.sh am29332:
 
     tools/memory.py [--symbols] [--archive FILE] [FUNCTION ..]
 
@@ -21,7 +21,7 @@ import subprocess
 import sys
 
 ROOT = os.path.dirname(os.path.dirname(os.path.abspath(__file__)))
-ARCHIVE = os.path.join(ROOT, "target/staticlib/libam29332.a")
+ARCHIVE = os.path.join(ROOT, "crates/am29332/out/libam29332.a")
 MNEMONICS = "crates/mnemonics/src/lib.rt"
 DISASSEMBLERS = ("llvm-objdump", "x86_64-linux-gnu-objdump", "objdump")
 
@@ -234,11 +234,11 @@ def tell_calls(library, pieces, frames, entries):
 def main():
     words = argparse.ArgumentParser(description=__doc__, formatter_class=argparse.RawDescriptionHelpFormatter)
     words.add_argument("--symbols", action="store_true", help="a line for each symbol")
-    words.add_argument("--archive", metavar="FILE", default=ARCHIVE, help="another archive than target/staticlib/libam29332.a")
+    words.add_argument("--archive", metavar="FILE", default=ARCHIVE, help="another archive than crates/am29332/out/libam29332.a")
     words.add_argument("functions", metavar="FUNCTION", nargs="*", help="a function of include/am29332.h; none: each of them")
     asked = words.parse_args()
     if not os.path.exists(asked.archive):
-        sys.exit(f"memory: there is no {os.path.relpath(asked.archive)}; first: rt staticlib am29332")
+        sys.exit(f"memory: there is no {os.path.relpath(asked.archive)}; first: tools/build.sh am29332")
     library = Library(member(asked.archive))
     for name in asked.functions:
         if name not in library.entries():
