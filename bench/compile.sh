@@ -55,8 +55,8 @@ for folder in . bin toolchain toolchain/bin; do
     done
 done
 
-(cd "$crate" && "$work/kit/bin/rt" lib) >"$work/said" 2>&1 ||
-    { cat "$work/said" >&2; fail "rt lib failed in crates/am29332"; }
+PATH=$work/kit/bin:$PATH "$here/../tools/build.sh" am29332 >"$work/said" 2>&1 ||
+    { cat "$work/said" >&2; fail "tools/build.sh am29332 failed"; }
 [ -s "$work/module.bc" ] || fail "rt lib handed no module to the compiler"
 
 # as_text WORDS..: what the compiler makes of a module or of C, as text.

@@ -2,11 +2,11 @@
  * The Am29332 in software, proved: AMD's 32-bit arithmetic unit of 1987 as
  * functions that a C or C++ program calls.
  *
- * The library is crates/am29332/out/libam29332.a, which `rt lib` writes in
- * crates/am29332 (x86-64 Linux). Every function in it is proved to do what its
- * comment here says; the definitions behind the words are in
- * crates/am29332/specs and the specs/ below it. Words, sheets and reasons are
- * those of document 01, operations those of AMD's instruction manual.
+ * The library is crates/am29332/out/libam29332.a, which `tools/build.sh am29332`
+ * writes (x86-64 Linux). Every function in it is proved to do what its comment
+ * here says; the definitions behind the words are in crates/am29332/specs and
+ * the specs/ below it. Words, sheets and reasons are those of document 01,
+ * operations those of AMD's instruction manual.
  *
  * What holds for all functions:
  *

@@ -1,7 +1,8 @@
 #!/bin/sh
 # build.sh NAME ..: proves the crates of these names, with all below them, and builds them. A program is crates/NAME/out/NAME then; it is run on the
-# crate's stdin, and what it prints is held to the crate's stdout. A static library is crates/NAME/out/libNAME.a. What is proved already is not proved
-# again. Exit status 1 where a crate is not proved or a program prints something else, 2 for a name that is no crate. Works from any directory.
+# crate's stdin, and what it prints is held to the crate's stdout. A static library is crates/NAME/out/libNAME.a, compiled for every x86-64 processor:
+# by itself rt takes x86-64-v2, which the library would not check, and for which the compiler stores masks (docs/MEMORY.md). What is proved already is
+# not proved again. Exit status 1 where a crate is not proved or a program prints something else, 2 for a name that is no crate. Works from any directory.
 set -eu
 root=$(dirname -- "$(dirname -- "$(readlink -f -- "$0")")")
 [ $# -gt 0 ] || { echo "usage: build.sh NAME .." >&2; exit 2; }
@@ -15,7 +16,7 @@ trap 'exit 1' HUP INT TERM
 for name; do
     cd "$root/crates/$name"
     if [ ! -e src/main.rt ]; then
-        rt lib || { echo "build.sh: $name is not built" >&2; exit 1; }
+        rt lib --cpu x86-64 || { echo "build.sh: $name is not built" >&2; exit 1; }
         continue
     fi
     given=/dev/null wanted=/dev/null
