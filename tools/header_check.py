@@ -25,6 +25,9 @@ PREFIX = "am29332_"
 NUMBERS = {"u8": ("uint8_t", 1), "u16": ("uint16_t", 2), "u32": ("uint32_t", 4), "u64": ("uint64_t", 8)}
 OTHER_NAMES = {"SingleWord": "inputs"}
 
+# What the library takes of the C library, as the header says.
+CALLED = {"memset"}
+
 told = []
 
 
@@ -284,6 +287,9 @@ def check_symbols(declared):
         tell(f"symbol {name} is in {ARCHIVE} and not in the header")
     for name in sorted(declared.keys() - symbols):
         tell(f"function {name} is in the header and not in {ARCHIVE}")
+    listed = subprocess.run([nm, "-u", os.path.join(ROOT, ARCHIVE)], stdout=subprocess.PIPE, text=True, check=True).stdout
+    for name in sorted(set(re.findall(r"^ +U (\S+)$", listed, re.M)) - CALLED):
+        tell(f"{ARCHIVE} calls {name}, of which the header does not speak")
     return f"{len(symbols)} symbols"
 
 
