@@ -2,14 +2,13 @@
 # Builds the C host and the Rust host and runs both: examples/build-hosts.sh [FILE.sheet].
 # Works from any directory; without a file it is sheets/fifteen.sheet, and what the hosts print is held to c-host/expected.txt.
 #
-# The proved library is x86-64 code. Where the machine is another kind, the C host is built for x86-64 with the kit's compiler and runs under the
-# kit's emulator. Rust would need its standard library for x86-64, which the kit does not have: there the Rust host is built for the machine itself, on
-# the C model of bench/ behind the same header (rust-host/stand-in.c), so that all of it runs but the link with the proved library.
-# CC may name the C compiler and CXX the C++ compiler.
+# The proved library is x86-64 code, and the kit that proves and builds it is for such machines alone: it has no emulator for another one. There the
+# hosts are built for the machine itself, on the C model of bench/ behind the same header (rust-host/stand-in.c), so that all of them runs but the link
+# with the proved library; the script says so. CC may name the C compiler and CXX the C++ compiler.
 set -eu
 here=$(cd -- "$(dirname -- "$0")" && pwd)
 root=$(dirname -- "$here")
-archive=$root/target/staticlib/libam29332.a
+archive=$root/crates/am29332/out/libam29332.a
 machine=$(uname -m)
 sheet=${1:-$here/sheets/fifteen.sheet}
 
@@ -17,36 +16,17 @@ work=$(mktemp -d)
 trap 'rm -rf -- "$work"' EXIT
 trap 'exit 1' HUP INT TERM
 
-kit=$(dirname -- "$(dirname -- "$(readlink -f "$(command -v rt)")")")
 compiler=${CC:-$(command -v cc || command -v gcc || command -v clang)}
 flags="-std=c11 -O2 -Wall -Wextra -Wpedantic -Werror"
 
-if [ ! -e "$archive" ] || [ -n "$(find "$root/crates" -name '*.rt' -newer "$archive")" ]; then
-    echo "-- the library: rt staticlib am29332"
-    (cd "$root" && rt staticlib am29332 >"$work/staticlib.log" 2>&1) || { cat "$work/staticlib.log" >&2; exit 1; }
+if [ "$machine" = x86_64 ]; then
+    echo "-- the library: tools/build.sh am29332"
+    "$root/tools/build.sh" am29332 >"$work/build.log" 2>&1 || { cat "$work/build.log" >&2; exit 1; }
 fi
 
 "$root/tools/header_check.py"
 # A constant whose use is not known, a stored mask say, is told here.
-"$root/tools/memory.py" >"$work/memory.txt" || { cat "$work/memory.txt" >&2; exit 1; }
-
-# c_host_native, c_host_elsewhere: "$work/c-host", and a command that runs it.
-c_host_native() {
-    "$compiler" $flags -I "$root/include" "$here/c-host/main.c" "$archive" -o "$work/c-host"
-    run_c_host() { "$work/c-host" "$1"; }
-}
-
-c_host_elsewhere() {
-    chain=$kit/on/$machine/toolchain
-    lib=$chain/lib
-    "$chain/bin/clang" --target=x86_64-linux-gnu -nostdinc -isystem "$("$compiler" -print-file-name=include)" \
-        -isystem "/usr/include/$("$compiler" -print-multiarch)" -isystem /usr/include \
-        $flags -fPIE -I "$root/include" -c "$here/c-host/main.c" -o "$work/c-host.o"
-    "$chain/bin/ld.lld" -pie -dynamic-linker /lib64/ld-linux-x86-64.so.2 -o "$work/c-host" \
-        "$lib/Scrt1.o" "$lib/crti.o" "$lib/crtbeginS.o" "$work/c-host.o" "$archive" \
-        "$lib/libc.so.6" "$lib/libc_nonshared.a" "$lib/libgcc.a" "$lib/crtendS.o" "$lib/crtn.o"
-    run_c_host() { "$chain/bin/qemu-x86_64" "$lib/ld-linux-x86-64.so.2" --library-path "$lib" "$work/c-host" "$1"; }
-}
+[ "$machine" != x86_64 ] || "$root/tools/memory.py" >"$work/memory.txt" || { cat "$work/memory.txt" >&2; exit 1; }
 
 # show FILE COMMAND..: runs a host, and shows and keeps what it prints.
 show() {
@@ -56,12 +36,7 @@ show() {
     cat "$file"
 }
 
-# rust_host FOLDER: "$work/rust-host", on the library in that folder.
-rust_host() {
-    AM29332_LIB=$1 CARGO_TARGET_DIR=$work/cargo cargo build --quiet --release --offline --locked --manifest-path "$here/rust-host/Cargo.toml"
-    mv "$work/cargo/release/rust-host" "$work/rust-host"
-}
-
+# The library over the C model, in a folder of its own.
 stand_in() {
     mkdir "$work/stand-in"
     "$compiler" $flags -I "$root/include" -c "$here/rust-host/stand-in.c" -o "$work/stand-in/stand-in.o"
@@ -73,28 +48,28 @@ stand_in() {
 
 tried=
 if [ "$machine" = x86_64 ]; then
-    c_host_native
-    echo "-- C host, with the proved library"
-else
-    c_host_elsewhere
-    echo "-- C host, with the proved library: x86-64 code under the kit's emulator on $machine"
-fi
-show "$work/c.txt" run_c_host "$sheet"
-
-if ! command -v cargo >/dev/null; then
-    tried="$tried
-not tried: the Rust host (there is no cargo here)"
-elif [ "$machine" = x86_64 ]; then
-    rust_host "$(dirname -- "$archive")"
-    echo "-- Rust host, with the proved library"
-    show "$work/rust.txt" "$work/rust-host" "$sheet"
+    library=$archive
+    with="with the proved library"
 else
     stand_in
-    rust_host "$work/stand-in"
-    echo "-- Rust host, $machine code, on the C model behind the same header"
-    show "$work/rust.txt" "$work/rust-host" "$sheet"
+    library=$work/stand-in/libam29332.a
+    with="$machine code, on the C model behind the same header"
+    tried="
+not tried: the hosts with the proved library (it is x86-64 code, and the kit has no emulator for $machine)"
+fi
+
+"$compiler" $flags -I "$root/include" "$here/c-host/main.c" "$library" -o "$work/c-host"
+echo "-- C host, $with"
+show "$work/c.txt" "$work/c-host" "$sheet"
+
+if command -v cargo >/dev/null; then
+    AM29332_LIB=$(dirname -- "$library") CARGO_TARGET_DIR=$work/cargo \
+        cargo build --quiet --release --offline --locked --manifest-path "$here/rust-host/Cargo.toml"
+    echo "-- Rust host, $with"
+    show "$work/rust.txt" "$work/cargo/release/rust-host" "$sheet"
+else
     tried="$tried
-not tried: the Rust host with the proved library (it needs Rust's standard library for x86-64)"
+not tried: the Rust host (there is no cargo here)"
 fi
 
 other=${CXX:-$(command -v c++ || command -v g++ || command -v clang++ || true)}

@@ -1,12 +1,12 @@
 #!/bin/sh
 # Holds the examples to one another: each listing assembles to its sheet, each sheet lists to its listing, and each trace is the stored one; sees that
-# the first example is what the gate runs, and that the lines of C in README.md compile. First build the programs: rt check list assemble trace. Works from any
-# directory; CC may name the C compiler.
+# the first example is what the gate runs, and that the lines of C in README.md compile. First build the programs: tools/build.sh list assemble trace. Works
+# from any directory; CC may name the C compiler.
 set -eu
 here=$(cd -- "$(dirname -- "$0")" && pwd)
 root=$(dirname -- "$here")
 for program in list assemble trace; do
-    [ -x "$root/target/bin/$program" ] || { echo "check.sh: no program $program; run 'rt check list assemble trace' first" >&2; exit 2; }
+    [ -x "$root/crates/$program/out/$program" ] || { echo "check.sh: no program $program; run 'tools/build.sh list assemble trace' first" >&2; exit 2; }
 done
 work=$(mktemp -d)
 trap 'rm -rf -- "$work"' EXIT
@@ -20,7 +20,7 @@ for listing in "$here"/first/*.words "$here"/sheets/*.words; do
     cmp "$work/again.sheet" "$stored.sheet"
     "$root/tools/sheets.sh" assemble <"$listing" >"$work/alone.sheet"
     "$root/tools/sheets.sh" list <"$work/alone.sheet" | cmp - "$listing"
-    "$root/tools/x86run.sh" "$root/target/bin/trace" <"$stored.sheet" | cmp - "$stored.trace"
+    "$root/tools/x86run.sh" "$root/crates/trace/out/trace" <"$stored.sheet" | cmp - "$stored.trace"
     count=$((count + 1))
 done
 cmp "$here/first/and.sheet" "$root/crates/trace/stdin"

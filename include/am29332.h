@@ -2,7 +2,7 @@
  * The Am29332 in software, proved: AMD's 32-bit arithmetic unit of 1987 as
  * functions that a C or C++ program calls.
  *
- * The library is target/staticlib/libam29332.a, which `rt staticlib am29332`
+ * The library is crates/am29332/out/libam29332.a, which `tools/build.sh am29332`
  * writes (x86-64 Linux). Every function in it is proved to do what its comment
  * here says; the definitions behind the words are in crates/am29332/specs and
  * the specs/ below it. Words, sheets and reasons are those of document 01,
@@ -18,8 +18,9 @@
  *     is not followed and NULL will do. What is lent to be changed overlaps
  *     nothing else that the call is lent. Only this can a caller get wrong.
  *   - There is no state but what is handed in, no memory is allotted, no
- *     function of the C library is called, and every call returns: calls from
- *     several threads do not meet unless they lend the same memory.
+ *     function of the C library is called but memset (by am29332_list_sheet and
+ *     am29332_read_listing alone), and every call returns: calls from several
+ *     threads do not meet unless they lend the same memory.
  *
  * The status register, as handed in and out:
  *

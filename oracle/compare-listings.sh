@@ -1,13 +1,13 @@
 #!/bin/sh
-# compare-listings.sh [COUNT]: runs target/bin/listings on COUNT drawn sheets and texts (20,000 if not said), most of them damaged, and compares its
+# compare-listings.sh [COUNT]: runs the program listings on COUNT drawn sheets and texts (20,000 if not said), most of them damaged, and compares its
 # answers with the reference program's, byte for byte. Exit status 1 if one is unlike; then the first such case is told and kept.
-# Build the program first: rt check listings. Works from any directory.
+# Build the program first: tools/build.sh listings. Works from any directory.
 set -eu
 here=$(cd -- "$(dirname -- "$0")" && pwd)
 root=$(dirname -- "$here")
 count=${1:-20000}
-listings=$root/target/bin/listings
-[ -x "$listings" ] || { echo "compare-listings.sh: no program $listings; run 'rt check listings' first" >&2; exit 2; }
+listings=$root/crates/listings/out/listings
+[ -x "$listings" ] || { echo "compare-listings.sh: no program $listings; run 'tools/build.sh listings' first" >&2; exit 2; }
 work=$(mktemp -d)
 trap 'rm -rf -- "$work"' EXIT
 trap 'exit 1' HUP INT TERM

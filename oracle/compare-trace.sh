@@ -1,13 +1,13 @@
 #!/bin/sh
-# compare-trace.sh [COUNT]: runs target/bin/trace on COUNT inputs that the reference program makes (20,000 if not said), every other one damaged,
+# compare-trace.sh [COUNT]: runs the program trace on COUNT inputs that the reference program makes (20,000 if not said), every other one damaged,
 # and on some of the largest lengths; compares what it writes with the reference program's text, byte for byte. Exit status 1 if one is unlike.
-# Build the program first: rt check trace. Works from any directory.
+# Build the program first: tools/build.sh trace. Works from any directory.
 set -eu
 here=$(cd -- "$(dirname -- "$0")" && pwd)
 root=$(dirname -- "$here")
 count=${1:-20000}
-trace=$root/target/bin/trace
-[ -x "$trace" ] || { echo "compare-trace.sh: no program $trace; run 'rt check trace' first" >&2; exit 2; }
+trace=$root/crates/trace/out/trace
+[ -x "$trace" ] || { echo "compare-trace.sh: no program $trace; run 'tools/build.sh trace' first" >&2; exit 2; }
 work=$(mktemp -d)
 trap 'rm -rf -- "$work"' EXIT
 mkdir "$work/in"

@@ -1,6 +1,6 @@
 #!/bin/sh
 # Random main lists, handlers and schedules, legal ones and every kind of fault: the reference program's answers beside the proved program's.
-# interrupts.sh COUNT tries COUNT of them on crates/interrupts, which has to be built (rt check interrupts); 20,000 where no count is given.
+# interrupts.sh COUNT tries COUNT of them on crates/interrupts, which has to be built (tools/build.sh interrupts); 20,000 where no count is given.
 # interrupts.sh --store writes the gate's few (`oracle interrupt-cases`), interrupts.sh --same compares them with what is committed.
 # The lines are those of `oracle interrupts`, the lists filled up with `-` to one width: 256 characters a sheet, 4,120 the schedule, 128 the
 # registers.
@@ -33,8 +33,8 @@ case ${1:-20000} in
     awk 'END { print NR " cases, 0 missed" }' ../crates/interrupts/stdin > ../crates/interrupts/stdout
     ;;
 *)
-    interrupts=../target/bin/interrupts
-    [ -x "$interrupts" ] || { echo "interrupts.sh: no program target/bin/interrupts; run 'rt check interrupts' first" >&2; exit 2; }
+    interrupts=../crates/interrupts/out/interrupts
+    [ -x "$interrupts" ] || { echo "interrupts.sh: no program crates/interrupts/out/interrupts; run 'tools/build.sh interrupts' first" >&2; exit 2; }
     said=$("$program" interrupts "${1:-20000}" | widen | ../tools/x86run.sh "$interrupts")
     echo "$said"
     [ "$said" = "${1:-20000} cases, 0 missed" ]

@@ -14,25 +14,25 @@ FAMILIES = [("shifts", "shift"), ("arithmetic", "decimal"), ("multiply", "multip
 FAMILY = """\
 -- Each arm's call gives the entry of `{table}` at its number, and the default's the last entry. Written by tools/dispatch_proofs.py.
 use mathlib.Core.Path.{{refl}}
-use Rattle·bits.proofs.Rest.{{last-entry}}
+use Rattle.std.proofs.Common.{{arith}}
+use Rattle.bits.proofs.Rest.{{last_entry_past}}
 {uses}"""
 
 OPERATE = """\
 -- Each arm's call gives the page of its number, and no number below 128 is left to the default. Written by tools/dispatch_proofs.py.
-use Rattle·chip.proofs.Pages.{at, past-all}
+use Rattle.std.proofs.Common.{arith}
+use Rattle.chip.proofs.Pages.{at, past_glossary}
 """
 
 PROOF = """\
-{head}use borrow.Author.Needs.{{needs}}
-use Rattle·{crate}·proofs.proofs.{function}.Statement.{{statement}}
-use Rattle·{crate}·proofs.proofs.{function}.Tie as tie
+{head}use Rattle.{crate}.proofs.{function}.Goals as goal
 
-pub {function}-spec : {{M : Type 1}} → statement M
-{function}-spec =
-    tie.close
-    (tie.spec
-    {requires}
-    {returns})
+{answers}
+"""
+
+ANSWER = """\
+pub returns-{arm} : goal.returns-{arm}
+returns-{arm} c = {term}
 """
 
 
@@ -51,40 +51,30 @@ def calls(code):
     return done
 
 
-def filled(answers):
-    """As many answers to a line as fit."""
-    lines = [answers[0]]
-    for answer in answers[1:]:
-        if len(lines[-1]) + len(answer) < 145:
-            lines[-1] += " " + answer
-        else:
-            lines.append(answer)
-    return "\n    ".join(lines)
-
-
 def proof(crate, function, source):
     before, match = re.search(r"pub fn %s\(.*?\n}\n" % function, source, re.S).group().split("    match ")
     arms = re.findall(r"^        (\w+) => (.*),(?: //.*)?$", match, re.M)
-    family = re.search(r"getD (\S+) k (\S+) x", before)
-    requires = ["(search needs)" for code in [before.split("\n{\n")[1]] + [arm for _, arm in arms] for _ in calls(code)]
-    returns, times = [], {}
-    for number, (key, arm) in enumerate(arms):
-        # what is known of the matched number stands before each call, and before an operator on an input
-        known = "c" + " .before" * (len(calls(arm)) + len(re.findall(r"[!|&^] ?x\.", arm))) + (" .match .rest" if key == "_" else " .match .keys%d" % (number + 1))
-        callee = calls(arm)[-1].replace("_", "-")
-        times[callee] = times.get(callee, 0) + 1
-        ensures = "c .%s%s .ensures" % (callee, times[callee] if times[callee] > 1 else "") if len(calls(arm)) == 1 else "cc"
+    family = re.search(r"get_or (\S+) k (\S+) x", before)
+    answers, called = [], set()
+    for number, (key, code) in enumerate(arms):
+        arm = "in_default" if key == "_" else "in-%d" % int(key, 0)
+        made = calls(code)
+        # a step has its callee's name, and behind it the arm's where an earlier arm calls the same
+        step = made[-1] + ("-" + arm if made[-1] in called else "")
+        called.update(made)
+        ensures = "c.%s.ensures" % step if len(made) == 1 else "(cc)"
         if not family:
-            returns.append("(λ c. %s _ (%s) (%s))" % ("past-all _" if key == "_" else "at", known, ensures))
+            term = "%s %s" % ("past_glossary c.args.opcode c.args.x (omega arith)" if key == "_" else "at _ c.%s.is" % arm, ensures)
         elif key == "_":
-            returns.append("(λ c. rw (last-entry %s %s %d _ refl (%s)) (%s))" % (*family.groups(), number, known, ensures))
+            term = "rw (last_entry_past %s %s %d c.args.k refl (omega arith)) %s" % (*family.groups(), number, ensures)
         else:
-            returns.append("(λ c. rw (%s) (%s))" % (known, ensures))
+            term = "rw c.%s.is %s" % (arm, ensures)
+        answers.append(ANSWER.format(arm=arm, term=term))
     head = OPERATE
     if family:
         imports = [(module, [name for name in family.groups() if name in names.split(", ")]) for module, names in re.findall(r"^ghost use (\S+)\.{(.*)};", source, re.M)]
         head = FAMILY.format(table=family.group(1), uses="".join("use %s.{%s}\n" % (module, ", ".join(names)) for module, names in imports if names))
-    return PROOF.format(head=head, crate=crate, function=function, requires=filled(requires), returns=filled(returns))
+    return PROOF.format(head=head, crate=crate, function=function, answers="\n".join(answers).rstrip("\n"))
 
 
 def operate(source):
@@ -92,7 +82,7 @@ def operate(source):
     chip = read("chip/src/lib.rt")
     ranges = re.findall(r"0x(..)\.\.=0x(..) => Decoded::Known\(Operation::(\w+)\(n(?: - 0x(..))?\)\)", chip)
     functions = {family: function if "::" in function else "chip::" + function for family, function in re.findall(r"Operation::(\w+)\(k\) => ([\w:]+)\(k, x\)", chip)}
-    glossary = re.findall(r"page ([A-Z]\S*) ∷|no-page ∷", read("chip/specs/Glossary.antt"))
+    glossary = re.findall(r"page ([A-Z]\S*) ∷|no_page ∷", read("chip/specs/Glossary.antt"))
     arms = ["        0x%02x => unchanged(x),\n" % n for n in range(128)]
     for first, last, family, start in ranges:
         for n in range(int(first, 16), int(last, 16) + 1):
@@ -104,7 +94,7 @@ def main():
     texts = {"dispatch/src/lib.rt": operate(read("dispatch/src/lib.rt"))}
     for crate, function in FAMILIES + [("dispatch", "operate")]:
         path = crate + "/src/lib.rt"
-        texts["%s/proofs/%s/Proof.antt" % (crate, function)] = proof(crate, function, texts.get(path) or read(path))
+        texts["%s/proofs/%s/Answers.antt" % (crate, function)] = proof(crate, function, texts.get(path) or read(path))
     stale = [path for path, text in texts.items() if read(path) != text]
     for path in stale:
         print("crates/" + path)

@@ -3,7 +3,7 @@
 
 Read on the library's side: crates/am29332/src/lib.rt, the structs of the crates that it names, the numbers of crates/reasons, the status
 and pin weights of crates/machine, the glossary of crates/chip, the longest listing of crates/listing, the version in crates/am29332/specs; and the symbols of
-target/staticlib/libam29332.a, where that has been built. Each difference is a line, and the exit status is then 1. Signatures, sizes and offsets,
+crates/am29332/out/libam29332.a, where that has been built. Each difference is a line, and the exit status is then 1. Signatures, sizes and offsets,
 worked out from the .rt files, are also handed to the C compiler (CC, or cc) with the header.
 
 The lister's mnemonics, in the code and in the definitions of crates/mnemonics, are held to the glossary as well, place by place."""
@@ -18,12 +18,15 @@ import tempfile
 
 ROOT = os.path.dirname(os.path.dirname(os.path.abspath(__file__)))
 HEADER = "include/am29332.h"
-ARCHIVE = "target/staticlib/libam29332.a"
+ARCHIVE = "crates/am29332/out/libam29332.a"
 PREFIX = "am29332_"
 
 # Rattle's numbers in C, and their sizes; a struct is its name in small letters after the prefix, but for one.
 NUMBERS = {"u8": ("uint8_t", 1), "u16": ("uint16_t", 2), "u32": ("uint32_t", 4), "u64": ("uint64_t", 8)}
 OTHER_NAMES = {"SingleWord": "inputs"}
+
+# What the library takes of the C library, as the header says.
+CALLED = {"memset"}
 
 told = []
 
@@ -55,7 +58,21 @@ def compare(what, library, header):
 def code(path):
     """A .rt file without comments and without its promises."""
     text = re.sub(r"//[^\n]*", "", read(path))
-    return re.sub(r"\n\s*(?:ensures|requires)\b.*?⌝ }", "", text, flags=re.S)
+    kept, at = [], 0
+    for clause in re.finditer(r"\n\s*(?:ensures|requires)\b[^{}\n]*\{", text):
+        if clause.start() >= at:
+            kept.append(text[at:clause.start()])
+            at = behind_brace(text, clause.end())
+    return "".join(kept) + text[at:]
+
+
+def behind_brace(text, at):
+    """The place behind the brace that closes what is open at a place."""
+    depth = 1
+    while depth:
+        depth += {"{": 1, "}": -1}.get(text[at], 0)
+        at += 1
+    return at
 
 
 def c_name(struct):
@@ -75,11 +92,12 @@ def library_structs():
     """The #[repr(C)] structs that the interface's crate has or uses: a dict of lists of (type, field)."""
     interface = code("crates/am29332/src/lib.rt")
     used = {("am29332", name) for name in re.findall(r"pub struct (\w+)", interface)}
-    used |= set(re.findall(r"^use (\w+)::(\w+);", interface, re.M))
+    for crate, one, several in re.findall(r"^use (\w+)::(?:(\w+)|\{(.*?)\});", interface, re.M | re.S):
+        used |= {(crate, name) for name in re.findall(r"\w+", one or several)}
     found = {}
     for path in sorted(glob.glob(os.path.join(ROOT, "crates/*/src/lib.rt"))):
         crate = path.split(os.sep)[-3]
-        for name, body in re.findall(r"#\[repr\(C\)\]\s*pub struct (\w+) \{(.*?)\}", code(path), re.S):
+        for name, body in re.findall(r"#\[repr\(C\)\]\s*(?:#\[[^\]]*\]\s*)*pub struct (\w+) \{(.*?)\}", code(path), re.S):
             if (crate, name) in used:
                 found[name] = [(kind, field) for field, kind in pairs(body.replace("pub ", ""))]
     for crate, name in sorted(used):
@@ -91,7 +109,7 @@ def library_structs():
 def library_functions():
     """The exports: a dict of (result, parameters), each parameter a list of C types with the name that the .rt file has."""
     found = {}
-    pattern = r'#\[no_mangle\]\s*pub extern "C" fn (\w+)(?:<[^>]*>)?\((.*?)\)\s*->\s*(\w+)'
+    pattern = r'#\[unsafe\(no_mangle\)\]\s*pub extern "C" fn (\w+)(?:<[^>]*>)?\((.*?)\)\s*->\s*(\w+)'
     for name, parameters, result in re.findall(pattern, code("crates/am29332/src/lib.rt"), re.S):
         taken = []
         for parameter, kind in pairs(parameters):
@@ -118,7 +136,7 @@ def layout(structs, name):
 def glossary():
     """The mnemonics in the order of their opcode numbers, empty where there is no page."""
     entries = read("crates/chip/specs/Glossary.antt").split("glossary =\n")[1].split("[]")[0]
-    pages = re.findall(r"no-page|page (\S+)", entries)
+    pages = re.findall(r"no_page|page (\S+)", entries)
     if len(pages) != 128:
         tell(f"the glossary has {len(pages)} entries, not 128")
     return pages
@@ -213,8 +231,8 @@ def check_numbers(text):
     header = macros(text, "AM29332_STATUS_")
     compare("status weight", {name: int(value, 0) for name, value in weights},
             {name: value for name, value in header.items() if name not in ("POSITION", "SIGNED_LT", "SIGNED_LE")})
-    pins = re.search(r"^pinsOf s = (.*)$", read("crates/machine/specs/Pins.antt"), re.M).group(1)
-    compare("pin weight", {flag.upper(): int(weight or 1) for flag, weight in re.findall(r"s \.(\w)(?: \* (\d+))?", pins)},
+    pins = re.search(r"^pins_of s = (.*)$", read("crates/machine/specs/Pins.antt"), re.M).group(1)
+    compare("pin weight", {flag.upper(): int(weight or 1) for flag, weight in re.findall(r"s\.(\w)(?: \* (\d+))?", pins)},
             macros(text, "AM29332_PIN_"))
     version = dict(re.findall(r"^(major|minor|patch) = (\d+)$", read("crates/am29332/specs/Version.antt"), re.M))
     compare("version", {name.upper(): int(value) for name, value in version.items()}, macros(text, "AM29332_LIBRARY_VERSION_"))
@@ -233,11 +251,11 @@ def check_limits(text):
     """The largest counts, and the bytes of a header and a word, against the definitions."""
     sheet, schedule = "crates/sheet/specs/Sheet.antt", "crates/handler/specs/Schedule.antt"
     library = {
-        "MAX_WORDS": number_in(sheet, r"countOf h = h / 2 \^ 16 % (\d+)") - 1,
-        "MAX_REGISTERS": number_in(sheet, r"ltb (\d+) \(registersOf h\)"),
+        "MAX_WORDS": number_in(sheet, r"count_of h = h / 2 \^ 16 % (\d+)") - 1,
+        "MAX_REGISTERS": number_in(sheet, r"ltb (\d+) \(registers_of h\)"),
         "MAX_ENTRIES": number_in(schedule, r"leb (\d+) j gives Schedule"),
-        "HEADER_BYTES": number_in(sheet, r"partOf s k = take \d+ \(drop \((\d+) \+"),
-        "WORD_BYTES": number_in(sheet, r"partOf s k = take (\d+)"),
+        "HEADER_BYTES": number_in(sheet, r"part_of s k = take \d+ \(drop \((\d+) \+"),
+        "WORD_BYTES": number_in(sheet, r"part_of s k = take (\d+)"),
         "LISTING_MOST": number_in("crates/listing/src/lib.rt", r"pub const MOST: usize = (\d+);"),
     }
     library["SHEET_MOST"] = library["HEADER_BYTES"] + library["WORD_BYTES"] * library["MAX_WORDS"]
@@ -262,13 +280,16 @@ def check_symbols(declared):
     """The symbols of the archive, where there is one."""
     nm = shutil.which("nm") or shutil.which("llvm-nm")
     if not os.path.exists(os.path.join(ROOT, ARCHIVE)) or not nm:
-        return "no symbols (%s)" % ("there is no nm" if not nm else "rt staticlib am29332 has not been run")
+        return "no symbols (%s)" % ("there is no nm" if not nm else "tools/build.sh am29332 has not been run")
     listed = subprocess.run([nm, "-g", "--defined-only", os.path.join(ROOT, ARCHIVE)], stdout=subprocess.PIPE, text=True, check=True).stdout
     symbols = set(re.findall(r"^\w+ [A-Z] (\S+)$", listed, re.M))
     for name in sorted(symbols - declared.keys()):
         tell(f"symbol {name} is in {ARCHIVE} and not in the header")
     for name in sorted(declared.keys() - symbols):
         tell(f"function {name} is in the header and not in {ARCHIVE}")
+    listed = subprocess.run([nm, "-u", os.path.join(ROOT, ARCHIVE)], stdout=subprocess.PIPE, text=True, check=True).stdout
+    for name in sorted(set(re.findall(r"^ +U (\S+)$", listed, re.M)) - CALLED):
+        tell(f"{ARCHIVE} calls {name}, of which the header does not speak")
     return f"{len(symbols)} symbols"
 
 

@@ -21,7 +21,7 @@ row() {
 }
 
 row crate code definitions proofs edits more
-sed -n 's/^\([a-z0-9_]*\):.*/\1/p' "$here/crates.txt" | {
+sed -n 's/^\([a-z0-9_]*\)[^#:]*:.*/\1/p' "$here/crates.txt" | {
     code=0 definitions=0 proofs=0 gate=0 more=0
     while read -r crate; do
         folder=$here/crates/$crate

@@ -1,5 +1,5 @@
 #!/usr/bin/env python3
-"""Tells what memory the built library needs. Works from any directory, after rt staticlib am29332:
+"""Tells what memory the built library needs. Works from any directory, after tools/build.sh am29332:
 
     tools/memory.py [--symbols] [--archive FILE] [FUNCTION ..]
 
@@ -8,11 +8,14 @@ that are given, the code, the read-only data and the stack that come with it, an
 the archive, told to leave out what is not called (--gc-sections), but for bytes between functions; equal constants that it merges count once.
 
 What a piece is for is read off the archive, not taken from a list. A jump table is a piece in which every four bytes are the distance to an
-instruction of one function. Mnemonics are a piece that stands in the table of crates/mnemonics. Any other piece, a stored mask say, is told as not
-known, and so is data that can be written; the exit status is then 1. With --symbols there is a line for each symbol and its bytes."""
+instruction of one function. Mnemonics are a piece that stands in the table of crates/mnemonics. A text is the bytes of a string in the source of a
+crate. Any other piece, a stored mask say, is told as not known, and so is data that can be written; the exit status is then 1. With --symbols there
+is a line for each symbol and its bytes."""
 import argparse
+import ast
 import collections
 import functools
+import glob
 import os
 import re
 import shutil
@@ -21,7 +24,7 @@ import subprocess
 import sys
 
 ROOT = os.path.dirname(os.path.dirname(os.path.abspath(__file__)))
-ARCHIVE = os.path.join(ROOT, "target/staticlib/libam29332.a")
+ARCHIVE = os.path.join(ROOT, "crates/am29332/out/libam29332.a")
 MNEMONICS = "crates/mnemonics/src/lib.rt"
 DISASSEMBLERS = ("llvm-objdump", "x86_64-linux-gnu-objdump", "objdump")
 
@@ -112,7 +115,7 @@ class Library:
         starts = sorted(used.keys() | names.keys() | {0})
         for at, end in zip(starts, starts[1:] + [self.sections[section].size]):
             data = self.sections[section].bytes[at:end]
-            what = "jump table" if self.is_jump_table(section, at, end) else "mnemonics" if data in mnemonics() else "not known"
+            what = "jump table" if self.is_jump_table(section, at, end) else "mnemonics" if data in mnemonics() else "text" if data in texts() else "not known"
             # where a linker may merge, pieces with the same bytes are one
             linked = (section, data if self.sections[section].flags & MERGED else at)
             yield Piece(self.sections[section].name, names.get(at, f"+ {at:03x}"), end - at, data, frozenset(used[at]), what, linked)
@@ -127,6 +130,17 @@ def mnemonics():
     """The table of mnemonics as one text, column after column."""
     with open(os.path.join(ROOT, MNEMONICS), encoding="utf-8") as file:
         return "".join(re.findall(r'\*b"([^"]*)"', file.read())).encode()
+
+
+@functools.lru_cache(None)
+def texts():
+    """The bytes of each string in the sources."""
+    found = set()
+    for path in glob.glob(os.path.join(ROOT, "crates/*/src/*.rt")):
+        with open(path, encoding="utf-8") as file:
+            code = re.sub(r"//[^\n]*", "", file.read())
+        found |= {ast.literal_eval(f'b"{text}"') for text in re.findall(r'\bb"((?:[^"\\]|\\.)*)"', code)}
+    return found
 
 
 # ---- the stack
@@ -183,8 +197,8 @@ def row(name, *columns):
 
 
 def shown(piece):
-    """The bytes of a piece: as text where they are mnemonics."""
-    return f"'{piece.bytes.decode()}'" if piece.what == "mnemonics" else f"{piece.size // 4} entries" if piece.what == "jump table" else piece.bytes.hex()
+    """The bytes of a piece: as text where they are one."""
+    return repr(piece.bytes.decode()) if piece.what in ("mnemonics", "text") else f"{piece.size // 4} entries" if piece.what == "jump table" else piece.bytes.hex()
 
 
 def tell_read_only(pieces, each):
@@ -212,7 +226,7 @@ def tell_read_only(pieces, each):
     for piece in pieces:
         sums[piece.what] += piece.size
     row("all", sum(sums.values()))
-    print(f"  jump tables {sums['jump table']}, mnemonics {sums['mnemonics']}, anything else {sums['not known']}")
+    print(f"  jump tables {sums['jump table']}, mnemonics {sums['mnemonics']}, texts {sums['text']}, anything else {sums['not known']}")
 
 
 def tell_calls(library, pieces, frames, entries):
@@ -234,11 +248,11 @@ def tell_calls(library, pieces, frames, entries):
 def main():
     words = argparse.ArgumentParser(description=__doc__, formatter_class=argparse.RawDescriptionHelpFormatter)
     words.add_argument("--symbols", action="store_true", help="a line for each symbol")
-    words.add_argument("--archive", metavar="FILE", default=ARCHIVE, help="another archive than target/staticlib/libam29332.a")
+    words.add_argument("--archive", metavar="FILE", default=ARCHIVE, help="another archive than crates/am29332/out/libam29332.a")
     words.add_argument("functions", metavar="FUNCTION", nargs="*", help="a function of include/am29332.h; none: each of them")
     asked = words.parse_args()
     if not os.path.exists(asked.archive):
-        sys.exit(f"memory: there is no {os.path.relpath(asked.archive)}; first: rt staticlib am29332")
+        sys.exit(f"memory: there is no {os.path.relpath(asked.archive)}; first: tools/build.sh am29332")
     library = Library(member(asked.archive))
     for name in asked.functions:
         if name not in library.entries():
@@ -252,7 +266,10 @@ def main():
     tell_calls(library, pieces, frames, asked.functions or library.entries())
     if not code:
         print("the stack is not told: no llvm-objdump, and no objdump that reads x86-64 code")
-    return 1 if written or any(piece.what == "not known" for piece in pieces) else 0
+    if any(piece.what == "not known" for piece in pieces):
+        print("memory: is what is not known of x86-64-v2, for which rt builds by itself? tools/build.sh builds for every processor", file=sys.stderr)
+        return 1
+    return 1 if written else 0
 
 
 if __name__ == "__main__":

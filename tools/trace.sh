@@ -1,6 +1,6 @@
 #!/bin/sh
 # trace.sh LISTING [REGISTER..]: assembles a listing (docs/LISTING.md), puts the registers that it starts with after it, eight hex digits each, and
-# traces it. First build the two programs: rt check assemble trace. Exit status 1 where the listing is refused. With -o FILE the trace's input is
+# traces it. First build the two programs: tools/build.sh assemble trace. Exit status 1 where the listing is refused. With -o FILE the trace's input is
 # written there instead: trace.sh -o FILE LISTING [REGISTER..].
 set -eu
 here=$(cd -- "$(dirname -- "$0")" && pwd)
@@ -31,5 +31,5 @@ done
 if [ -n "$output" ]; then
     cp "$work/input" "$output"
 else
-    "$here/x86run.sh" "$root/target/bin/trace" <"$work/input"
+    "$here/x86run.sh" "$root/crates/trace/out/trace" <"$work/input"
 fi

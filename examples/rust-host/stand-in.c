@@ -1,8 +1,8 @@
 /*
  * The library's interface over the C model of bench/, where the proved library
- * cannot be linked: it is x86-64 code. build-hosts.sh then builds the Rust host
- * on this, so that its declarations are held to the header and its wrapper
- * runs. What the host prints must be what the C host prints with the proved
+ * cannot be linked: it is x86-64 code. build-hosts.sh then builds both hosts on
+ * this, so that the Rust host's declarations are held to the header and its
+ * wrapper runs. What the hosts print must be what they print with the proved
  * library.
  */
 #include "am29332.h"
