@@ -1,14 +1,10 @@
 -- Under six words, or six and more.
 use mathlib.Core.Path.{◌∙◌}
 use Rattle.handler.proofs.FormLaws.{form_short, form_long}
-use borrow.Author.Rules.{rules}
 use Rattle.handler.proofs.form.Goals as goal
 
 pub returns-then-n-lt6 : goal.returns-then-n-lt6
 returns-then-n-lt6 c = c.misformed.ensures ∙ form_short c.args.h.now _ c.words-n.ensures c.if-n-lt6.true
-
-pub first_misformed-requires : goal.first_misformed-requires
-first_misformed-requires c = (search rules, rw (c.only-2.ensures, c.only.ensures))
 
 pub returns : goal.returns
 returns c = let first = c in
