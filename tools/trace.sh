@@ -14,6 +14,8 @@ fi
 [ $# -gt 0 ] || { echo "usage: trace.sh [-o FILE] LISTING [REGISTER..]" >&2; exit 2; }
 listing=$1
 shift
+program=$root/crates/trace/out/trace
+[ -n "$output" ] || [ -x "$program" ] || { echo "trace.sh: no program $program; run 'tools/build.sh assemble trace' first" >&2; exit 2; }
 work=$(mktemp -d)
 trap 'rm -rf -- "$work"' EXIT
 trap 'exit 1' HUP INT TERM
@@ -31,5 +33,5 @@ done
 if [ -n "$output" ]; then
     cp "$work/input" "$output"
 else
-    "$here/x86run.sh" "$root/crates/trace/out/trace" <"$work/input"
+    "$here/x86run.sh" "$program" <"$work/input"
 fi
