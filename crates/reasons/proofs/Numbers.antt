@@ -5,12 +5,13 @@ use mathlib.Core.Bool.{Bool, true, false}
 use Prim.Native.Nat.{ℕ, zero, suc, ◌+◌, ◌<◌}
 use native.Mathlib.Omega.{arith}
 use lib.ListN.{get_or}
-use Rattle.reasons.specs.Reasons.{Row, first_of, rows_by, or_else, number_of, check_numbers}
+use Rattle.std.proofs.Common.{Result, Ok, Err}
+use Rattle.reasons.specs.Reasons.{Row, first_of, rows_by, or_else, number_of, refused, Check, check_numbers}
+use Rattle.reasons.proofs.Rows.{same_reason}
 use Rattle.reasons.specs.declared.Outcome.{Outcome}
 use Rattle.reasons.specs.declared.Reason.{Reason}
 use Rattle.reasons.specs.declared.Reason.TheVariants.{Done, Opcode, Inputs, Short, Version, Header, Length, File, Spare, Register, Start, Form, Overlap, Schedule, Room, Text, Count, Idle}
-use Rattle.reasons.specs.declared.Check.{Check}
-use Rattle.reasons.specs.declared.Check.TheVariants.{Good, Bad}
+use Rattle.reasons.specs.declared.Refusal.{Refusal}
 
 -- ---- reasons
 -- in the order of their numbers
@@ -45,14 +46,14 @@ number_once r q e = sym (at-number r) ∙ ap (λ (n : ℕ). get_or in_order n Do
 -- ---- checks
 -- a check that does not refuse with reason 0
 abbrev pub Tells : Check → Type 0
-Tells c = (r : Reason) (p : ℕ) → c ≡ Bad r p → 0 < number_of r
+Tells c = (r : Reason) (p : ℕ) → c ≡ refused r p → 0 < number_of r
 
 pub check_once : (c d : Check) → Tells c → Tells d → check_numbers c ≡ check_numbers d → c ≡ d
-check_once Good Good f g e = refl
-check_once Good (Bad r p) f g e = let n : 0 ≡ number_of r = ap (λ (o : Outcome). o.reason) e in absurd (omega (arith, g r p refl))
-check_once (Bad r p) Good f g e = let n : number_of r ≡ 0 = ap (λ (o : Outcome). o.reason) e in absurd (omega (arith, f r p refl))
-check_once (Bad r p) (Bad q k) f g e =
-    ap₂ Bad (number_once r q (ap (λ (o : Outcome). o.reason) e)) (ap (λ (o : Outcome). o.place) e)
+check_once (Ok done) (Ok also_done) f g e = refl
+check_once (Ok done) (Err y) f g e = let n : 0 ≡ number_of y.reason = ap (λ (o : Outcome). o.reason) e in absurd (omega (arith, g y.reason y.place refl))
+check_once (Err x) (Ok done) f g e = let n : number_of x.reason ≡ 0 = ap (λ (o : Outcome). o.reason) e in absurd (omega (arith, f x.reason x.place refl))
+check_once (Err x) (Err y) f g e =
+    ap₂ refused (number_once x.reason y.reason (ap (λ (o : Outcome). o.reason) e)) (ap (λ (o : Outcome). o.place) e)
 
 -- ---- tables
 -- no row gives reason 0
@@ -64,8 +65,8 @@ pub telling_first : (rows : List Row) → Telling rows → Tells (first_of rows)
 telling_first [] t r p e = absurd (let z : ◌≡◌ {A = ℕ} 0 1 = cc in omega arith)
 telling_first (x ∷ xs) t r p e = go x.holds e (telling_first xs t.1 r p)
   where
-    go : (b : Bool) → or_else b (Bad x.reason x.place) (first_of xs) ≡ Bad r p → (first_of xs ≡ Bad r p → 0 < number_of r) → 0 < number_of r
-    go true f i = let d : x.reason ≡ r = cc in subst (λ (y : Reason). 0 < number_of y) d t.0
+    go : (b : Bool) → or_else b (refused x.reason x.place) (first_of xs) ≡ refused r p → (first_of xs ≡ refused r p → 0 < number_of r) → 0 < number_of r
+    go true f i = subst (λ (y : Reason). 0 < number_of y) (same_reason f) t.0
     go false f i = i f
 
 pub telling_on : (a b : List Row) → Telling a → Telling b → Telling (a ++ b)

@@ -6,38 +6,54 @@ use mathlib.Core.Bool.{Bool, true, false, not, ◌&&◌, true≢false, and_assoc
 use Prim.Native.Nat.{ℕ, zero, suc, ◌+◌, ◌-◌, ◌≤◌, ◌<◌}
 use native.Mathlib.Omega.{arith}
 use native.Mathlib.Decide.{ℕ_discrete}
-use Rattle.reasons.specs.Reasons.{Row, first_of, none_hold, rows_by, or_else}
+use Rattle.reasons.specs.Reasons.{Row, first_of, none_hold, rows_by, refused, Check, good, or_else}
+use Rattle.std.proofs.Common.{Result, Ok, Err}
 use Rattle.reasons.specs.declared.Reason.{Reason}
-use Rattle.reasons.specs.declared.Check.TheVariants.{Good, Bad}
+use Rattle.reasons.specs.declared.Reason.TheVariants.{Done}
+
+-- a refusal has one reason and one place
+abbrev reason_in : Check → Reason
+reason_in (Ok done) = Done
+reason_in (Err refusal) = refusal.reason
+
+abbrev place_in : Check → ℕ
+place_in (Ok done) = 0
+place_in (Err refusal) = refusal.place
+
+pub same_reason : {r q : Reason} {p k : ℕ} → refused r p ≡ refused q k → r ≡ q
+same_reason e = ap reason_in e
+
+pub same_place : {r q : Reason} {p k : ℕ} → refused r p ≡ refused q k → p ≡ k
+same_place e = ap place_in e
 
 -- no row holds
 pub data None : List Row → Type 0 where
   none : None []
   more : {r : Row} {rs : List Row} → r.holds ≡ false → None rs → None (r ∷ rs)
 
--- Good: no row holds
-pub good_none : (a : List Row) → first_of a ≡ Good → None a
+-- nothing refused: no row holds
+pub good_none : (a : List Row) → first_of a ≡ good → None a
 good_none [] e = none
 good_none (r ∷ rs) e = go r.holds refl e (good_none rs)
   where
-    go : (b : Bool) → r.holds ≡ b → or_else b (Bad r.reason r.place) (first_of rs) ≡ Good → (first_of rs ≡ Good → None rs) → None (r ∷ rs)
+    go : (b : Bool) → r.holds ≡ b → or_else b (refused r.reason r.place) (first_of rs) ≡ good → (first_of rs ≡ good → None rs) → None (r ∷ rs)
     go true h f i = absurd (let z : ◌≡◌ {A = ℕ} 0 1 = cc in omega arith)
     go false h f i = more h (i f)
 
-pub none_good : (a : List Row) → None a → first_of a ≡ Good
+pub none_good : (a : List Row) → None a → first_of a ≡ good
 none_good [] n = refl
 none_good (r ∷ rs) (more h n) = rw h (none_good rs n)
 
 -- the same by a test of the whole table
-pub hold_good : (a : List Row) → none_hold a ≡ true → first_of a ≡ Good
+pub hold_good : (a : List Row) → none_hold a ≡ true → first_of a ≡ good
 hold_good [] e = refl
 hold_good (r ∷ rs) e = go r.holds e (hold_good rs)
   where
-    go : (b : Bool) → (not b && none_hold rs) ≡ true → (none_hold rs ≡ true → first_of rs ≡ Good) → or_else b (Bad r.reason r.place) (first_of rs) ≡ Good
+    go : (b : Bool) → (not b && none_hold rs) ≡ true → (none_hold rs ≡ true → first_of rs ≡ good) → or_else b (refused r.reason r.place) (first_of rs) ≡ good
     go true f i = absurd (true≢false (sym f))
     go false f i = i f
 
-pub good_hold : (a : List Row) → first_of a ≡ Good → none_hold a ≡ true
+pub good_hold : (a : List Row) → first_of a ≡ good → none_hold a ≡ true
 good_hold a e = go a (good_none a e)
   where
     go : (a : List Row) → None a → none_hold a ≡ true
@@ -54,16 +70,16 @@ pub first_past : (a b : List Row) → None a → first_of (a ++ b) ≡ first_of 
 first_past [] b n = refl
 first_past (r ∷ rs) b (more h n) = rw h (first_past rs b n)
 
-pub first_good : (a b : List Row) → first_of a ≡ Good → first_of (a ++ b) ≡ first_of b
+pub first_good : (a b : List Row) → first_of a ≡ good → first_of (a ++ b) ≡ first_of b
 first_good a b e = first_past a b (good_none a e)
 
 -- a table after one that refuses
-pub first_bad : (a b : List Row) (r : Reason) (p : ℕ) → first_of a ≡ Bad r p → first_of (a ++ b) ≡ Bad r p
+pub first_bad : (a b : List Row) (r : Reason) (p : ℕ) → first_of a ≡ refused r p → first_of (a ++ b) ≡ refused r p
 first_bad [] b r p e = absurd (let z : ◌≡◌ {A = ℕ} 0 1 = cc in omega arith)
 first_bad (x ∷ xs) b r p e = go x.holds refl e (first_bad xs b r p)
   where
-    go : (t : Bool) → x.holds ≡ t → or_else t (Bad x.reason x.place) (first_of xs) ≡ Bad r p
-        → (first_of xs ≡ Bad r p → first_of (xs ++ b) ≡ Bad r p) → first_of ((x ∷ xs) ++ b) ≡ Bad r p
+    go : (t : Bool) → x.holds ≡ t → or_else t (refused x.reason x.place) (first_of xs) ≡ refused r p
+        → (first_of xs ≡ refused r p → first_of (xs ++ b) ≡ refused r p) → first_of ((x ∷ xs) ++ b) ≡ refused r p
     go true h f i = rw h f
     go false h f i = rw h (i f)
 
@@ -78,18 +94,18 @@ pub record First (rows : List Row) (r : Reason) (p : ℕ) : Type 0 where
   pub reason : row.reason ≡ r
   pub place : row.place ≡ p
 
-pub exactly_if : (rows : List Row) (r : Reason) (p : ℕ) → First rows r p → first_of rows ≡ Bad r p
+pub exactly_if : (rows : List Row) (r : Reason) (p : ℕ) → First rows r p → first_of rows ≡ refused r p
 exactly_if rows r p f =
     ap first_of f.split ∙ first_past f.earlier (f.row ∷ f.later) f.passed
     ∙ rw (f.holds, f.reason, f.place) refl
 
-pub exactly_only : (rows : List Row) (r : Reason) (p : ℕ) → first_of rows ≡ Bad r p → First rows r p
+pub exactly_only : (rows : List Row) (r : Reason) (p : ℕ) → first_of rows ≡ refused r p → First rows r p
 exactly_only [] r p e = absurd (let z : ◌≡◌ {A = ℕ} 0 1 = cc in omega arith)
 exactly_only (x ∷ xs) r p e = go x.holds refl e (exactly_only xs r p)
   where
-    go : (t : Bool) → x.holds ≡ t → or_else t (Bad x.reason x.place) (first_of xs) ≡ Bad r p
-        → (first_of xs ≡ Bad r p → First xs r p) → First (x ∷ xs) r p
-    go true h f i = record { earlier = []; row = x; later = xs; split = refl; passed = none; holds = h; reason = cc; place = cc }
+    go : (t : Bool) → x.holds ≡ t → or_else t (refused x.reason x.place) (first_of xs) ≡ refused r p
+        → (first_of xs ≡ refused r p → First xs r p) → First (x ∷ xs) r p
+    go true h f i = record { earlier = []; row = x; later = xs; split = refl; passed = none; holds = h; reason = same_reason f; place = same_place f }
     go false h f i =
         let g : First xs r p = i f in
         record {
@@ -110,10 +126,10 @@ module _ (f : ℕ → List Row) where
       let e : count - k ≡ suc (count - (k + 1)) = omega arith in
       rw e refl
 
-  rows_bad : (k count : ℕ) (r : Reason) (p : ℕ) → k < count → first_of (f k) ≡ Bad r p → first_of (rows_by f k (count - k)) ≡ Bad r p
+  rows_bad : (k count : ℕ) (r : Reason) (p : ℕ) → k < count → first_of (f k) ≡ refused r p → first_of (rows_by f k (count - k)) ≡ refused r p
   rows_bad k count r p h e = ap first_of (rows_more k count h) ∙ first_bad (f k) (rows_by f (k + 1) (count - (k + 1))) r p e
 
-  rows_good : (k count : ℕ) → k < count → first_of (f k) ≡ Good → first_of (rows_by f k (count - k)) ≡ first_of (rows_by f (k + 1) (count - (k + 1)))
+  rows_good : (k count : ℕ) → k < count → first_of (f k) ≡ good → first_of (rows_by f k (count - k)) ≡ first_of (rows_by f (k + 1) (count - (k + 1)))
   rows_good k count h e = ap first_of (rows_more k count h) ∙ first_good (f k) (rows_by f (k + 1) (count - (k + 1))) e
 
   -- with the answer so far, and that of the next test
@@ -133,13 +149,13 @@ pub scan_start : (f : ℕ → List Row) (k m n : ℕ) → k ≤ n → n - k ≡ 
 scan_start f k m n h e = record { upto = h; same = ap (λ (j : ℕ). first_of (rows_by f k j)) (sym e) }
 
 module _ {f : ℕ → List Row} {whole : List Row} {n k : ℕ} (s : Scan f whole n k) where
-  pub scan_bad : {r : Reason} {p : ℕ} → k < n → first_of (f k) ≡ Bad r p → Bad r p ≡ first_of whole
+  pub scan_bad : {r : Reason} {p : ℕ} → k < n → first_of (f k) ≡ refused r p → refused r p ≡ first_of whole
   scan_bad {r} {p} h e = sym (s.same ∙ rows_bad f k n r p h e)
 
-  pub scan_more : k < n → first_of (f k) ≡ Good → Scan f whole n (k + 1)
+  pub scan_more : k < n → first_of (f k) ≡ good → Scan f whole n (k + 1)
   scan_more h e = record { upto = omega arith; same = s.same ∙ rows_good f k n h e }
 
-  pub scan_done : n ≤ k → Good ≡ first_of whole
+  pub scan_done : n ≤ k → good ≡ first_of whole
   scan_done h = let e : n - k ≡ 0 = omega arith in sym (s.same ∙ rw e refl)
 
 -- a part of the table in which no row holds

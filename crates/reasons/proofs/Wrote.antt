@@ -2,22 +2,21 @@
 use mathlib.Core.Path.{◌≡◌, refl, sym, ap, ◌∙◌}
 use mathlib.Core.List.{List}
 use Prim.Native.Nat.{ℕ}
-use Rattle.reasons.specs.declared.Check.{Check}
-use Rattle.reasons.specs.declared.Check.TheVariants.{Good, Bad}
-use Rattle.reasons.specs.declared.Output.{Output}
-use Rattle.reasons.specs.Reasons.{check_numbers}
-use Rattle.reasons.specs.Output.{Wrote, wrote, wrote_by}
+use Rattle.std.proofs.Common.{Result, Ok, Err}
+use Rattle.reasons.specs.declared.Refusal.{Refusal}
+use Rattle.reasons.specs.Reasons.{Check, check_numbers}
+use Rattle.reasons.specs.Output.{Wrote, wrote, wrote_by, written_check}
 
 -- the check that it was made by
-pub wrote-check : (c : Check) (out d : List ℕ) → (wrote_by c out d).answer.check ≡ c
-wrote-check Good out d = refl
-wrote-check (Bad r p) out d = refl
+pub wrote-check : (c : Check) (out d : List ℕ) → written_check (wrote_by c out d).answer ≡ c
+wrote-check (Ok done) out d = refl
+wrote-check (Err refusal) out d = refl
 
 -- its numbers too
-pub wrote-numbers : (c : Check) (out d : List ℕ) {a : Output} {b : List ℕ} → wrote a b ≡ wrote_by c out d
-    → (wrote a b ≡ wrote_by c out d) × (check_numbers a.check ≡ check_numbers c)
-wrote-numbers c out d e = (e, ap check_numbers (ap (λ (x : Wrote). x.answer.check) e ∙ wrote-check c out d))
+pub wrote-numbers : (c : Check) (out d : List ℕ) {a : Result ℕ Refusal} {b : List ℕ} → wrote a b ≡ wrote_by c out d
+    → (wrote a b ≡ wrote_by c out d) × (check_numbers (written_check a) ≡ check_numbers c)
+wrote-numbers c out d e = (e, ap check_numbers (ap (λ (x : Wrote). written_check x.answer) e ∙ wrote-check c out d))
 
 -- no second answer and buffer
-pub one-wrote : (w : Wrote) (a b : Output) (l m : List ℕ) → wrote a l ≡ w → wrote b m ≡ w → (a ≡ b) × (l ≡ m)
+pub one-wrote : (w : Wrote) (a b : Result ℕ Refusal) (l m : List ℕ) → wrote a l ≡ w → wrote b m ≡ w → (a ≡ b) × (l ≡ m)
 one-wrote w a b l m e f = (ap (λ (x : Wrote). x.answer) (e ∙ sym f), ap (λ (x : Wrote). x.buffer) (e ∙ sym f))

@@ -1,23 +1,22 @@
 -- What a call leaves that writes into a lent buffer.
-use Rattle.std.specs.Prelude.{List, ◌++◌, ℕ, length, drop}
-use Rattle.reasons.specs.declared.Output.{Output}
-use Rattle.reasons.specs.declared.Reason.{Reason}
-use Rattle.reasons.specs.declared.Check.{Check}
-use Rattle.reasons.specs.declared.Check.TheVariants.{Good, Bad}
+use Rattle.std.specs.Prelude.{List, ◌++◌, ℕ, length, drop, Result, Ok, Err}
+use Rattle.reasons.specs.declared.Refusal.{Refusal}
+use Rattle.reasons.specs.Reasons.{Check, good}
 
--- its answer, and the buffer afterwards
+-- its answer, which is how many bytes it wrote or a refusal, and the buffer afterwards
 pub record Wrote : Type 0 where
-  pub answer : Output
+  pub answer : Result ℕ Refusal
   pub buffer : List ℕ
 
-abbrev pub wrote : Output → List ℕ → Wrote
+abbrev pub wrote : Result ℕ Refusal → List ℕ → Wrote
 wrote a d = record { answer = a; buffer = d }
 
--- a refusal: nothing was written
-abbrev pub withheld : Reason → ℕ → Output
-withheld reason place = record { check = Bad reason place; bytes = 0 }
+-- of an answer, whether it is refused
+abbrev pub written_check : Result ℕ Refusal → Check
+written_check (Ok bytes) = good
+written_check (Err refusal) = Err refusal
 
 -- how many bytes were written, and they stand at the start: the bytes past them stay; a refusal changes no byte
 abbrev pub wrote_by : Check → List ℕ → List ℕ → Wrote
-wrote_by Good out d = wrote (record { check = Good; bytes = length out }) (out ++ drop (length out) d)
-wrote_by (Bad reason place) out d = wrote (withheld reason place) d
+wrote_by (Ok done) out d = wrote (Ok (length out)) (out ++ drop (length out) d)
+wrote_by (Err refusal) out d = wrote (Err refusal) d

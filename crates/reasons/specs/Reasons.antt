@@ -1,9 +1,8 @@
 -- The reasons given (document 01's table; 15 and 16 are document 02's, request 2, and 17 is of request 5): their numbers, and tables of rows in their order.
-use Rattle.std.specs.Prelude.{List, [], ◌∷◌, ◌++◌, Bool, true, false, not, ◌&&◌, ℕ, zero, suc, ◌+◌}
+use Rattle.std.specs.Prelude.{List, [], ◌∷◌, ◌++◌, Bool, true, false, not, ◌&&◌, ℕ, zero, suc, ◌+◌, Result, Ok, Err}
 use Rattle.reasons.specs.declared.Reason.{Reason}
 use Rattle.reasons.specs.declared.Reason.TheVariants.{Done, Opcode, Inputs, Short, Version, Header, Length, File, Spare, Register, Start, Form, Overlap, Schedule, Room, Text, Count, Idle}
-use Rattle.reasons.specs.declared.Check.{Check}
-use Rattle.reasons.specs.declared.Check.TheVariants.{Good, Bad}
+use Rattle.reasons.specs.declared.Refusal.{Refusal}
 use Rattle.reasons.specs.declared.Outcome.{Outcome}
 
 abbrev pub number_of : Reason → ℕ
@@ -30,10 +29,25 @@ number_of Idle = 17
 abbrev pub outcome_of : Reason → ℕ → Outcome
 outcome_of reason place = record { reason = number_of reason; place = place }
 
+-- what a check answers: there is nothing to refuse, or the reason and its place
+abbrev pub Check : Type 0
+Check = Result (Unit {0}) Refusal
+
+abbrev pub good : Check
+good = Ok tt
+
+abbrev pub refused : Reason → ℕ → Check
+refused reason place = Err (record { reason = reason; place = place })
+
+-- a run's answer in numbers: 0 and the number of words run, or the number and the place of a refusal
+abbrev pub answer_numbers : Result ℕ Refusal → Outcome
+answer_numbers (Ok count) = outcome_of Done count
+answer_numbers (Err refusal) = outcome_of refusal.reason refusal.place
+
 -- a check in numbers: 0 done at place 0, or the number and the place of a refusal
 abbrev pub check_numbers : Check → Outcome
-check_numbers Good = outcome_of Done 0
-check_numbers (Bad reason place) = outcome_of reason place
+check_numbers (Ok done) = outcome_of Done 0
+check_numbers (Err refusal) = outcome_of refusal.reason refusal.place
 
 -- a row of a table of reasons: its condition, and the reason and place that are given where it holds and no earlier one does
 pub record Row : Type 0 where
@@ -51,8 +65,8 @@ or_else false c d = d
 
 -- what the first row that holds says
 abbrev pub first_of : List Row → Check
-first_of [] = Good
-first_of (r ∷ rs) = or_else r.holds (Bad r.reason r.place) (first_of rs)
+first_of [] = good
+first_of (r ∷ rs) = or_else r.holds (refused r.reason r.place) (first_of rs)
 
 -- whether no row holds
 abbrev pub none_hold : List Row → Bool

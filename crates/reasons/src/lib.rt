@@ -2,10 +2,10 @@
 #![tactic(auto)]
 
 ghost use Rattle.std.specs.Prelude.{◌≡◌};
-ghost use Rattle.reasons.specs.Reasons.{number_of, outcome_of, check_numbers};
-ghost use Rattle.reasons.specs.Output.{withheld};
+ghost use Rattle.reasons.specs.Reasons.{number_of, outcome_of, check_numbers, answer_numbers};
 
-#[derive(Clone, Copy)]
+// What a call answers for: done, or why it is refused. Done is one of them, since the paper numbers it with the others.
+#[derive(Clone, Copy, PartialEq, Eq)]
 pub enum Reason {
     Done,
     Opcode,
@@ -27,11 +27,11 @@ pub enum Reason {
     Idle,
 }
 
-// Nothing to refuse, or the reason and its place.
-#[derive(Clone, Copy)]
-pub enum Check {
-    Good,
-    Bad { reason: Reason, place: usize },
+// Why a call is refused, and where.
+#[derive(Clone, Copy, PartialEq, Eq)]
+pub struct Refusal {
+    pub reason: Reason,
+    pub place: usize,
 }
 
 // An answer in numbers: the paper's number of the reason, and the place, which is the number of words run where the reason is 0 and a sheet ran.
@@ -42,37 +42,11 @@ pub struct Outcome {
     pub place: u64,
 }
 
-// What a call answers that writes into a lent buffer: how many bytes it wrote, 0 where it is refused.
-#[derive(Clone, Copy)]
-pub struct Output {
-    pub check: Check,
-    pub bytes: usize,
-}
-
 // The paper's number of a reason.
 pub fn number(r: Reason) -> u32
     ensures { result ≡ number_of r }
 {
-    match r {
-        Reason::Done => 0,
-        Reason::Opcode => 1,
-        Reason::Inputs => 2,
-        Reason::Short => 3,
-        Reason::Version => 4,
-        Reason::Header => 5,
-        Reason::Length => 6,
-        Reason::File => 7,
-        Reason::Spare => 8,
-        Reason::Register => 9,
-        Reason::Start => 10,
-        Reason::Form => 11,
-        Reason::Overlap => 12,
-        Reason::Schedule => 13,
-        Reason::Room => 14,
-        Reason::Text => 15,
-        Reason::Count => 16,
-        Reason::Idle => 17,
-    }
+    r as u32
 }
 
 // A reason and its place in numbers.
@@ -85,22 +59,19 @@ pub fn numbered(reason: Reason, place: usize) -> Outcome
     }
 }
 
-// What a check answers, in numbers: 0 and 0 where there is nothing to refuse.
-pub fn numbered_check(check: Check) -> Outcome
-    ensures { result ≡ check_numbers check }
+// What a run answers, in numbers: 0 and the number of words run, or a refusal's.
+pub fn numbered_answer(answer: Result<usize, Refusal>) -> Outcome
+    ensures { result ≡ answer_numbers answer }
 {
-    match check {
-        Check::Good => numbered(Reason::Done, 0),
-        Check::Bad { reason, place } => numbered(reason, place),
+    match answer {
+        Ok(count) => numbered(Reason::Done, count),
+        Err(refusal) => numbered(refusal.reason, refusal.place),
     }
 }
 
-// A call that is refused has written nothing.
-pub fn nothing_written(reason: Reason, place: usize) -> Output
-    ensures { result ≡ withheld reason place }
+// What a check answers, in numbers: 0 and 0 where there is nothing to refuse.
+pub fn numbered_check(check: Result<(), Refusal>) -> Outcome
+    ensures { result ≡ check_numbers check }
 {
-    Output {
-        check: Check::Bad { reason, place },
-        bytes: 0,
-    }
+    numbered_answer(check.map(|()| 0))
 }
