@@ -6,11 +6,11 @@ use Prim.Native.Nat.{◌^◌, ◌<◌}
 use Rattle.machine.specs.Pins.{pins_in}
 use Rattle.machine.proofs.Pins.{pins-loaded, pins-read}
 use Rattle.reasons.specs.declared.Reason.TheVariants.{Opcode as NoOpcode, Inputs as BadInputs}
-use Rattle.reasons.specs.Reasons.{◌gives◌at◌, first_of, outcome_of, check_numbers}
+use Rattle.reasons.specs.Reasons.{◌gives◌at◌, first_of, check_numbers}
 use Rattle.chip.specs.declared.SingleWord.{SingleWord}
 use Rattle.chip.specs.declared.SingleAnswer.{SingleAnswer}
 use Rattle.chip.specs.declared.Operation.{Operation}
-use Rattle.chip.specs.declared.Decoded.TheVariants.{Known, Opcode}
+use Rattle.std.proofs.Common.{Some, None}
 use Rattle.chip.specs.Glossary.{Page, page_of}
 use Rattle.chip.specs.Glossary.Page.{page, no_page}
 use Rattle.chip.specs.Operations.{decoded_of}
@@ -31,16 +31,16 @@ module _ (s : SingleWord) where
   unfolding by_rows tested lacks_page single_of
   from_rows = refl
 
-  pub refused-opcode : decoded_of s.opcode ≡ Opcode → refused_as NoOpcode s ≡ single_of s
+  pub refused-opcode : decoded_of s.opcode ≡ None → refused_as NoOpcode s ≡ single_of s
   unfolding by_rows
   refused-opcode e = sym (ap (λ (p : Page). by_rows p tested) (page_decoded s.opcode ∙ ap page_for e)) ∙ from_rows
 
-  pub refused-inputs : (o : Operation) → decoded_of s.opcode ≡ Known o
+  pub refused-inputs : (o : Operation) → decoded_of s.opcode ≡ Some o
       → out_of_range s.code s.position s.width s.select s.carry s.link s.borrow ≡ true → refused_as BadInputs s ≡ single_of s
   unfolding by_rows tested
   refused-inputs o e t = sym (ap₂ by_rows (page_decoded s.opcode ∙ ap page_for e) t) ∙ from_rows
 
-  pub answered : (o : Operation) → decoded_of s.opcode ≡ Known o
+  pub answered : (o : Operation) → decoded_of s.opcode ≡ Some o
       → out_of_range s.code s.position s.width s.select s.carry s.link s.borrow ≡ false
       → performed (single_shown s) ≡ single_of s
   unfolding by_rows tested
@@ -51,15 +51,15 @@ module _ (s : SingleWord) where
   one_answer r q e f = e ∙ sym f
 
   -- the answer's reason and place are the numbers of the table's first row that holds
-  numbers_by : (p : Page) (t : Bool) → outcome_of (by_rows p t).reason (by_rows p t).place ≡ check_numbers (first_of ((is_no_page p gives NoOpcode at 0) ∷ (t gives BadInputs at 0) ∷ []))
+  numbers_by : (p : Page) (t : Bool) → check_numbers (by_rows p t).check ≡ check_numbers (first_of ((is_no_page p gives NoOpcode at 0) ∷ (t gives BadInputs at 0) ∷ []))
   unfolding by_rows
   numbers_by (page f) true = refl
   numbers_by (page f) false = refl
   numbers_by no_page t = refl
 
-  in_numbers : (r : SingleAnswer) → r ≡ single_of s → outcome_of r.reason r.place ≡ single_outcome s
+  in_numbers : (r : SingleAnswer) → r ≡ single_of s → check_numbers r.check ≡ single_outcome s
   unfolding tested lacks_page
-  in_numbers r e = ap (λ (a : SingleAnswer). outcome_of a.reason a.place) (e ∙ sym from_rows) ∙ numbers_by (page_of s.opcode) tested
+  in_numbers r e = ap (λ (a : SingleAnswer). check_numbers a.check) (e ∙ sym from_rows) ∙ numbers_by (page_of s.opcode) tested
 
   -- the pins are those five bits of the status answered, of every word and of every refusal; A, B and Q have 32 bits
   module _ (a : s.a < 2 ^ 32) (b : s.b < 2 ^ 32) (q : s.q < 2 ^ 32) where
@@ -74,5 +74,5 @@ module _ (s : SingleWord) where
 
     -- all that the promise says of an answer, once it is that of the definition
     pub promised : (r : SingleAnswer) → r ≡ single_of s
-        → (r ≡ single_of s) × ((outcome_of r.reason r.place ≡ single_outcome s) × (r.pins ≡ pins_in r.status))
+        → (r ≡ single_of s) × ((check_numbers r.check ≡ single_outcome s) × (r.pins ≡ pins_in r.status))
     promised r e = (e, (in_numbers r e, subst (λ (x : SingleAnswer). x.pins ≡ pins_in x.status) (sym e) single-pins))

@@ -1,5 +1,5 @@
 -- The single word: any values handed in, refused in the order 1 Opcode, 2 Inputs, or performed.
-use Rattle.std.specs.Prelude.{List, [], ◌∷◌, Bool, true, false, ◌||◌, ℕ, ltb}
+use Rattle.std.specs.Prelude.{List, [], ◌∷◌, Bool, true, false, ◌||◌, ℕ, ltb, Ok, Err}
 use Rattle.bits.specs.Bits.{parity_of}
 use Rattle.machine.specs.declared.Inputs.{Inputs}
 use Rattle.machine.specs.declared.Core.{Core}
@@ -8,11 +8,9 @@ use Rattle.machine.specs.Core.{taken, shown_by, shown_status}
 use Rattle.machine.specs.Status.{loaded}
 use Rattle.machine.specs.Pins.{pins_of}
 use Rattle.reasons.specs.declared.Reason.{Reason}
-use Rattle.reasons.specs.declared.Reason.TheVariants.{Done, Opcode, Inputs as InputsReason}
-use Rattle.reasons.specs.declared.Check.{Check}
-use Rattle.reasons.specs.declared.Check.TheVariants.{Good, Bad}
+use Rattle.reasons.specs.declared.Reason.TheVariants.{Opcode, Inputs as InputsReason}
 use Rattle.reasons.specs.declared.Outcome.{Outcome}
-use Rattle.reasons.specs.Reasons.{Row, ◌gives◌at◌, first_of, check_numbers}
+use Rattle.reasons.specs.Reasons.{Row, ◌gives◌at◌, Check, good, refused, first_of, check_numbers}
 use Rattle.chip.specs.declared.SingleWord.{SingleWord}
 use Rattle.chip.specs.declared.SingleAnswer.{SingleAnswer}
 use Rattle.chip.specs.Glossary.{Page, page_of, perform_of}
@@ -63,16 +61,16 @@ single_shown s = shown_by s.borrow (perform_of s.opcode (single_inputs s))
 -- Y, its parity, Q, the status as the word itself reads it, and the pins
 abbrev pub performed : Shown → SingleAnswer
 performed x =
-    record { reason = Done; place = 0; y = x.y; parity = parity_of x.y; q = x.core.q; status = shown_status x; pins = pins_of x.core.status }
+    record { check = good; y = x.y; parity = parity_of x.y; q = x.core.q; status = shown_status x; pins = pins_of x.core.status }
 
 -- a refusal repeats the Q and status handed in, bit for bit, with Y and parity 0; the pins show that status
 abbrev pub refused_as : Reason → SingleWord → SingleAnswer
 refused_as r s =
-    record { reason = r; place = 0; y = 0; parity = 0; q = s.q; status = s.status; pins = pins_of (loaded s.status) }
+    record { check = refused r 0; y = 0; parity = 0; q = s.q; status = s.status; pins = pins_of (loaded s.status) }
 
 abbrev pub unless : Check → SingleWord → SingleAnswer
-unless Good s = performed (single_shown s)
-unless (Bad r p) s = refused_as r s
+unless (Ok done) s = performed (single_shown s)
+unless (Err refusal) s = refused_as refusal.reason s
 
 unfoldable pub single_of : SingleWord → SingleAnswer
 single_of s = unless (first_of (single_rows s)) s

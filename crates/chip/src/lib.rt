@@ -2,17 +2,16 @@
 #![tactic(auto)]
 
 ghost use Rattle.std.specs.Prelude.{◌≡◌, get_or};
-ghost use Rattle.reasons.specs.Reasons.{outcome_of};
+ghost use Rattle.reasons.specs.Reasons.{check_numbers};
 ghost use Rattle.machine.specs.Inputs.{Sound};
 ghost use Rattle.machine.specs.Pins.{pins_in};
 ghost use Rattle.arithmetic.specs.Arithmetic.{SUBRC};
 ghost use Rattle.chip.specs.Operations.{decoded_of, basics, meaning_of};
-ghost use Rattle.chip.specs.declared.Decoded.TheVariants.{Known};
 ghost use Rattle.chip.specs.Glossary.{perform_of};
 ghost use Rattle.chip.specs.Single.{lacks_page, out_of_range, refused_as, single_inputs, single_shown, performed, single_of, single_outcome};
 
 use machine::{Inputs, Machine, Outputs, Status};
-use reasons::Reason;
+use reasons::{Reason, Refusal};
 
 // The fields of one word of a sheet.
 #[repr(C)]
@@ -54,8 +53,7 @@ pub struct SingleWord {
 // Its answer. The parity has a bit for each byte of Y, the highest byte's in bit 3; the pins C, Z, N, V and L are bits 4 to 0.
 #[derive(Clone, Copy)]
 pub struct SingleAnswer {
-    pub reason: Reason,
-    pub place: usize,
+    pub check: Result<(), Refusal>,
     pub y: u32,
     pub parity: u32,
     pub q: u32,
@@ -75,26 +73,19 @@ pub enum Operation {
     Field(u32),
 }
 
-// What an opcode number stands for.
-#[derive(Clone, Copy)]
-pub enum Decoded {
-    Known(Operation),
-    Opcode,
-}
-
-// One decision over the opcode numbers (document 01's form): the operation, or Opcode.
-pub fn decode(n: u32) -> Decoded
+// One decision over the opcode numbers (document 01's form): the operation, or none, which is reason Opcode.
+pub fn decode(n: u32) -> Option<Operation>
     ensures { result ≡ decoded_of n }
 {
     match n {
-        0x00..=0x1d => Decoded::Known(Operation::Basic(n)),
-        0x20..=0x3b => Decoded::Known(Operation::Shift(n - 0x20)),
-        0x3c..=0x47 => Decoded::Known(Operation::Basic(n - 0x1e)),
-        0x48..=0x4b => Decoded::Known(Operation::Decimal(n - 0x48)),
-        0x4e..=0x5a => Decoded::Known(Operation::Divide(n - 0x4e)),
-        0x5b..=0x5f => Decoded::Known(Operation::Multiply(n - 0x5b)),
-        0x60..=0x7f => Decoded::Known(Operation::Field(n - 0x60)),
-        _ => Decoded::Opcode,
+        0x00..=0x1d => Some(Operation::Basic(n)),
+        0x20..=0x3b => Some(Operation::Shift(n - 0x20)),
+        0x3c..=0x47 => Some(Operation::Basic(n - 0x1e)),
+        0x48..=0x4b => Some(Operation::Decimal(n - 0x48)),
+        0x4e..=0x5a => Some(Operation::Divide(n - 0x4e)),
+        0x5b..=0x5f => Some(Operation::Multiply(n - 0x5b)),
+        0x60..=0x7f => Some(Operation::Field(n - 0x60)),
+        _ => None,
     }
 }
 
@@ -102,10 +93,7 @@ pub fn decode(n: u32) -> Decoded
 pub fn lacks_page(n: u32) -> bool
     ensures { result ≡ lacks_page n }
 {
-    match decode(n) {
-        Decoded::Opcode => true,
-        Decoded::Known(_) => false,
-    }
+    decode(n).is_none()
 }
 
 // The basic instructions by their place: 00 to 1D, then 3C to 47.
@@ -200,8 +188,7 @@ fn refuse(word: SingleWord, reason: Reason) -> SingleAnswer
     ensures { result ≡ refused_as reason word }
 {
     SingleAnswer {
-        reason,
-        place: 0,
+        check: Err(Refusal { reason, place: 0 }),
         y: 0,
         parity: 0,
         q: word.q,
@@ -237,7 +224,7 @@ fn inputs(s: SingleWord) -> Inputs
 
 // The answer of a word whose opcode has a page and whose inputs are in range.
 fn answer(operation: Operation, s: SingleWord) -> SingleAnswer
-    requires { (decoded_of s.opcode ≡ Known operation) × Sound (single_inputs s) }
+    requires { (decoded_of s.opcode ≡ Some operation) × Sound (single_inputs s) }
     ensures { result ≡ performed (single_shown s) }
 {
     let x = inputs(s);
@@ -245,8 +232,7 @@ fn answer(operation: Operation, s: SingleWord) -> SingleAnswer
     let core = shown.core;
     let after = core.status;
     SingleAnswer {
-        reason: Reason::Done,
-        place: 0,
+        check: Ok(()),
         y: shown.y,
         parity: bits::parity(shown.y),
         q: shown.core.q,
@@ -257,7 +243,7 @@ fn answer(operation: Operation, s: SingleWord) -> SingleAnswer
 
 // A word whose opcode has a page.
 fn admit(operation: Operation, s: SingleWord) -> SingleAnswer
-    requires { decoded_of s.opcode ≡ Known operation }
+    requires { decoded_of s.opcode ≡ Some operation }
     ensures { result ≡ single_of s }
 {
     if out_of_range(
@@ -271,11 +257,11 @@ fn admit(operation: Operation, s: SingleWord) -> SingleAnswer
 // The single word, with any values: refused with its reason, or Y, parity, Q, status and pins.
 pub fn single_word(s: SingleWord) -> SingleAnswer
     ensures value { result ≡ single_of s }
-    ensures numbers { outcome_of result.reason result.place ≡ single_outcome s }
+    ensures numbers { check_numbers result.check ≡ single_outcome s }
     ensures pins { result.pins ≡ pins_in result.status }
 {
     match decode(s.opcode) {
-        Decoded::Opcode => refuse(s, Reason::Opcode),
-        Decoded::Known(operation) => admit(operation, s),
+        None => refuse(s, Reason::Opcode),
+        Some(operation) => admit(operation, s),
     }
 }

@@ -1,9 +1,7 @@
--- A number has a page exactly where it decodes to an operation.
-use Rattle.chip.proofs.Pages.{lacks_decoded}
+-- A number has no page exactly where it decodes to no operation.
+use mathlib.Core.Path.{refl, ◌∙◌}
+use Rattle.chip.proofs.Pages.{lacks_decoded, lacks_none}
 use Rattle.chip.proofs.lacks_page.Goals as goal
 
-pub returns-in-Opcode : goal.returns-in-Opcode
-returns-in-Opcode c = rw (lacks_decoded, ← c.in-Opcode.ensures)
-
-pub returns-in-Known : goal.returns-in-Known
-returns-in-Known c = rw (lacks_decoded, ← c.in-Known.ensures)
+pub returns : goal.returns
+returns c = lacks_none c.decode.result _ c.is_none.ensures ∙ rw (c.decode.ensures, lacks_decoded) refl
