@@ -80,7 +80,7 @@ def proof(crate, function, source):
 def operate(source):
     """The dispatch's source, with an arm for each number: its family, asked for its place there."""
     chip = read("chip/src/lib.rt")
-    ranges = re.findall(r"0x(..)\.\.=0x(..) => Some\(Operation::(\w+)\(n(?: - 0x(..))?\)\)", chip)
+    ranges = re.findall(r"0x(..)\.\.=0x(..) => Ok\(Operation::(\w+)\(n(?: - 0x(..))?\)\)", chip)
     functions = {family: function if "::" in function else "chip::" + function for family, function in re.findall(r"Operation::(\w+)\(k\) => ([\w:]+)\(k, x\)", chip)}
     glossary = re.findall(r"page ([A-Z]\S*) ∷|no_page ∷", read("chip/specs/Glossary.antt"))
     arms = ["        0x%02x => unchanged(x),\n" % n for n in range(128)]

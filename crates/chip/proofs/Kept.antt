@@ -12,9 +12,10 @@ use Rattle.arithmetic.proofs.Kept.{sum_kept, difference-kept, decimals-kept}
 use Rattle.multiply.proofs.Kept.{multiplies-kept}
 use Rattle.divide.proofs.Kept.{divides-kept}
 use Rattle.fields.proofs.Kept.{fields-kept}
+use Rattle.reasons.specs.declared.Reason.{Reason}
 use Rattle.chip.specs.declared.Operation.{Operation}
 use Rattle.chip.specs.declared.Operation.TheVariants.{Basic, Shift, Decimal, Divide, Multiply, Field}
-use Rattle.std.proofs.Common.{Option, Some, None}
+use Rattle.std.proofs.Common.{Result, Ok, Err}
 use Rattle.chip.specs.Glossary.{Page, following, perform_of}
 use Rattle.arithmetic.specs.Arithmetic.{SUBRC}
 use Rattle.chip.specs.Operations.{decoded_of, basics, meaning_of}
@@ -66,6 +67,6 @@ module _ (x : Inputs) (h : Sound x) (ha : x.a < 2 ^ 32) (hb : x.b < 2 ^ 32) (hq 
   unfolding perform_of
   perform_kept n = subst (λ (p : Page). Kept (following p x)) (sym (page_decoded n)) (decoded (decoded_of n))
     where
-      decoded : (d : Option Operation) → Kept (following (page_for d) x)
-      decoded (Some o) = meaning_kept o
-      decoded None = record { y = lit< tt; q = hq; status = h.status }
+      decoded : (d : Result Operation Reason) → Kept (following (page_for d) x)
+      decoded (Ok o) = meaning_kept o
+      decoded (Err r) = record { y = lit< tt; q = hq; status = h.status }

@@ -2,15 +2,16 @@
 -- page.
 use mathlib.Core.Path.{◌≡◌, refl, sym, ap, ◌∙◌}
 use mathlib.Core.List.{List, [], ◌∷◌}
-use mathlib.Core.Bool.{Bool, true, false, not}
 use Prim.Native.Nat.{◌≤◌, ℕ, zero, suc}
 use lib.ListN.{get_or, get_or-eq_default}
-use Rattle.std.proofs.Common.{Option, Some, None}
-use Rattle.std.specs.Option.{is_some}
+use Rattle.std.proofs.Common.{Result, Ok, Err}
+use Rattle.std.specs.Result.{is_err}
 use Rattle.bits.proofs.Rest.{NoneBelow, past_below}
 use Rattle.machine.specs.declared.Inputs.{Inputs}
 use Rattle.machine.specs.declared.Outputs.{Outputs}
 use Rattle.machine.specs.Inputs.{leaving}
+use Rattle.reasons.specs.declared.Reason.{Reason}
+use Rattle.reasons.specs.declared.Reason.TheVariants.{Opcode}
 use Rattle.chip.specs.declared.Operation.{Operation}
 use Rattle.chip.specs.Glossary.{Page, glossary, page_of, following, perform_of}
 use Rattle.chip.specs.Glossary.Page.{page, no_page}
@@ -18,11 +19,11 @@ use Rattle.chip.specs.Single.{is_no_page, lacks_page}
 use Rattle.chip.specs.Operations.{operations, decoded_of, meaning_of}
 
 -- the page of what a number decodes to
-abbrev pub page_for : Option Operation → Page
-page_for (Some o) = page (meaning_of o)
-page_for None = no_page
+abbrev pub page_for : Result Operation Reason → Page
+page_for (Ok o) = page (meaning_of o)
+page_for (Err r) = no_page
 
-abbrev pages_for : List (Option Operation) → List Page
+abbrev pages_for : List (Result Operation Reason) → List Page
 pages_for [] = []
 pages_for (d ∷ ds) = page_for d ∷ pages_for ds
 
@@ -30,7 +31,7 @@ pages_for (d ∷ ds) = page_for d ∷ pages_for ds
 one_table : pages_for operations ≡ glossary
 one_table = refl
 
-pages_at : (ds : List (Option Operation)) (n : ℕ) → get_or (pages_for ds) n no_page ≡ page_for (get_or ds n None)
+pages_at : (ds : List (Result Operation Reason)) (n : ℕ) → get_or (pages_for ds) n no_page ≡ page_for (get_or ds n (Err Opcode))
 pages_at [] n = refl
 pages_at (d ∷ ds) zero = refl
 pages_at (d ∷ ds) (suc n) = pages_at ds n
@@ -43,15 +44,13 @@ pub lacks_decoded : (n : ℕ) → lacks_page n ≡ is_no_page (page_for (decoded
 unfolding lacks_page
 lacks_decoded n = ap is_no_page (page_decoded n)
 
--- which the code asks of the answer
-pub lacks_none : (d : Option Operation) (b : Bool) → is_some d ≡ not b → b ≡ is_no_page (page_for d)
-lacks_none (Some o) true e = cc
-lacks_none (Some o) false e = refl
-lacks_none None true e = refl
-lacks_none None false e = cc
+-- which is what the code asks
+pub lacks_err : (d : Result Operation Reason) → is_err d ≡ is_no_page (page_for d)
+lacks_err (Ok o) = refl
+lacks_err (Err r) = refl
 
 -- what a number's operation does is what the whole word does
-pub performs : (n : ℕ) (o : Operation) (x : Inputs) → decoded_of n ≡ Some o → meaning_of o x ≡ perform_of n x
+pub performs : (n : ℕ) (o : Operation) (x : Inputs) → decoded_of n ≡ Ok o → meaning_of o x ≡ perform_of n x
 unfolding perform_of
 performs n o x e = ap (λ (p : Page). following p x) (sym (page_decoded n ∙ ap page_for e))
 

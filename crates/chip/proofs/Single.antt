@@ -5,12 +5,13 @@ use mathlib.Core.Bool.{Bool, true, false}
 use Prim.Native.Nat.{◌^◌, ◌<◌}
 use Rattle.machine.specs.Pins.{pins_in}
 use Rattle.machine.proofs.Pins.{pins-loaded, pins-read}
+use Rattle.reasons.specs.declared.Reason.{Reason}
 use Rattle.reasons.specs.declared.Reason.TheVariants.{Opcode as NoOpcode, Inputs as BadInputs}
 use Rattle.reasons.specs.Reasons.{◌gives◌at◌, first_of, check_numbers}
 use Rattle.chip.specs.declared.SingleWord.{SingleWord}
 use Rattle.chip.specs.declared.SingleAnswer.{SingleAnswer}
 use Rattle.chip.specs.declared.Operation.{Operation}
-use Rattle.std.proofs.Common.{Some, None}
+use Rattle.std.proofs.Common.{Ok, Err}
 use Rattle.chip.specs.Glossary.{Page, page_of}
 use Rattle.chip.specs.Glossary.Page.{page, no_page}
 use Rattle.chip.specs.Operations.{decoded_of}
@@ -31,16 +32,16 @@ module _ (s : SingleWord) where
   unfolding by_rows tested lacks_page single_of
   from_rows = refl
 
-  pub refused-opcode : decoded_of s.opcode ≡ None → refused_as NoOpcode s ≡ single_of s
+  pub refused-opcode : (r : Reason) → decoded_of s.opcode ≡ Err r → refused_as NoOpcode s ≡ single_of s
   unfolding by_rows
-  refused-opcode e = sym (ap (λ (p : Page). by_rows p tested) (page_decoded s.opcode ∙ ap page_for e)) ∙ from_rows
+  refused-opcode r e = sym (ap (λ (p : Page). by_rows p tested) (page_decoded s.opcode ∙ ap page_for e)) ∙ from_rows
 
-  pub refused-inputs : (o : Operation) → decoded_of s.opcode ≡ Some o
+  pub refused-inputs : (o : Operation) → decoded_of s.opcode ≡ Ok o
       → out_of_range s.code s.position s.width s.select s.carry s.link s.borrow ≡ true → refused_as BadInputs s ≡ single_of s
   unfolding by_rows tested
   refused-inputs o e t = sym (ap₂ by_rows (page_decoded s.opcode ∙ ap page_for e) t) ∙ from_rows
 
-  pub answered : (o : Operation) → decoded_of s.opcode ≡ Some o
+  pub answered : (o : Operation) → decoded_of s.opcode ≡ Ok o
       → out_of_range s.code s.position s.width s.select s.carry s.link s.borrow ≡ false
       → performed (single_shown s) ≡ single_of s
   unfolding by_rows tested

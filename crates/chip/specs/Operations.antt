@@ -1,5 +1,5 @@
 -- What each opcode number decodes to: a family and a place in it; and the pages that the places stand for.
-use Rattle.std.specs.Prelude.{List, [], ◌∷◌, ◌++◌, ℕ, zero, suc, get_or, Option, Some, None}
+use Rattle.std.specs.Prelude.{List, [], ◌∷◌, ◌++◌, ℕ, zero, suc, get_or, Result, Ok, Err}
 use Rattle.machine.specs.declared.Inputs.{Inputs}
 use Rattle.machine.specs.declared.Outputs.{Outputs}
 use Rattle.movement.specs.DataMovement.{ZERO-EXTA, ZERO-EXTB, SIGN-EXTA, SIGN-EXTB, PASS-STAT, PASS-Q, LOADQ-A, LOADQ-B, MERGEA-B, MERGEB-A, LDSTAT-A, LDSTAT-B}
@@ -11,27 +11,29 @@ use Rattle.arithmetic.specs.Decimal.{decimals, DIFF-CORR-B}
 use Rattle.multiply.specs.Multiply.{multiplies, SMULFIRST}
 use Rattle.divide.specs.Divide.{divides, SDIVLAST2}
 use Rattle.fields.specs.Field.{fields, PASS-MASK}
+use Rattle.reasons.specs.declared.Reason.{Reason}
+use Rattle.reasons.specs.declared.Reason.TheVariants.{Opcode}
 use Rattle.chip.specs.declared.Operation.{Operation}
 use Rattle.chip.specs.declared.Operation.TheVariants.{Basic, Shift, Decimal, Divide, Multiply, Field}
 
 -- n operations of a family, from its place k on
-abbrev pub from : (ℕ → Operation) → ℕ → ℕ → List (Option Operation)
+abbrev pub from : (ℕ → Operation) → ℕ → ℕ → List (Result Operation Reason)
 from family k zero = []
-from family k (suc n) = Some (family k) ∷ from family (suc k) n
+from family k (suc n) = Ok (family k) ∷ from family (suc k) n
 
 -- the 128 numbers in order; four have no page
-abbrev pub operations : List (Option Operation)
+abbrev pub operations : List (Result Operation Reason)
 operations =
     -- 00, 1E
-    from Basic 0 30 ++ (None ∷ None ∷ [])
+    from Basic 0 30 ++ (Err Opcode ∷ Err Opcode ∷ [])
     -- 20, 3C, 48
-    ++ from Shift 0 28 ++ from Basic 30 12 ++ from Decimal 0 4 ++ (None ∷ None ∷ [])
+    ++ from Shift 0 28 ++ from Basic 30 12 ++ from Decimal 0 4 ++ (Err Opcode ∷ Err Opcode ∷ [])
     -- 4E, 5B, 60
     ++ from Divide 0 13 ++ from Multiply 0 5 ++ from Field 0 32
 
 -- what a number decodes to; past 7F there is nothing
-abbrev pub decoded_of : ℕ → Option Operation
-decoded_of n = get_or operations n None
+abbrev pub decoded_of : ℕ → Result Operation Reason
+decoded_of n = get_or operations n (Err Opcode)
 
 -- the basic instructions in their order, each line under its first number
 abbrev pub basics : List (Inputs → Outputs)

@@ -73,19 +73,19 @@ pub enum Operation {
     Field(u32),
 }
 
-// One decision over the opcode numbers (document 01's form): the operation, or none, which is reason Opcode.
-pub fn decode(n: u32) -> Option<Operation>
+// One decision over the opcode numbers (document 01's form): the operation, or Opcode.
+pub fn decode(n: u32) -> Result<Operation, Reason>
     ensures { result ≡ decoded_of n }
 {
     match n {
-        0x00..=0x1d => Some(Operation::Basic(n)),
-        0x20..=0x3b => Some(Operation::Shift(n - 0x20)),
-        0x3c..=0x47 => Some(Operation::Basic(n - 0x1e)),
-        0x48..=0x4b => Some(Operation::Decimal(n - 0x48)),
-        0x4e..=0x5a => Some(Operation::Divide(n - 0x4e)),
-        0x5b..=0x5f => Some(Operation::Multiply(n - 0x5b)),
-        0x60..=0x7f => Some(Operation::Field(n - 0x60)),
-        _ => None,
+        0x00..=0x1d => Ok(Operation::Basic(n)),
+        0x20..=0x3b => Ok(Operation::Shift(n - 0x20)),
+        0x3c..=0x47 => Ok(Operation::Basic(n - 0x1e)),
+        0x48..=0x4b => Ok(Operation::Decimal(n - 0x48)),
+        0x4e..=0x5a => Ok(Operation::Divide(n - 0x4e)),
+        0x5b..=0x5f => Ok(Operation::Multiply(n - 0x5b)),
+        0x60..=0x7f => Ok(Operation::Field(n - 0x60)),
+        _ => Err(Reason::Opcode),
     }
 }
 
@@ -93,7 +93,7 @@ pub fn decode(n: u32) -> Option<Operation>
 pub fn lacks_page(n: u32) -> bool
     ensures { result ≡ lacks_page n }
 {
-    decode(n).is_none()
+    decode(n).is_err()
 }
 
 // The basic instructions by their place: 00 to 1D, then 3C to 47.
@@ -224,7 +224,7 @@ fn inputs(s: SingleWord) -> Inputs
 
 // The answer of a word whose opcode has a page and whose inputs are in range.
 fn answer(operation: Operation, s: SingleWord) -> SingleAnswer
-    requires { (decoded_of s.opcode ≡ Some operation) × Sound (single_inputs s) }
+    requires { (decoded_of s.opcode ≡ Ok operation) × Sound (single_inputs s) }
     ensures { result ≡ performed (single_shown s) }
 {
     let x = inputs(s);
@@ -243,7 +243,7 @@ fn answer(operation: Operation, s: SingleWord) -> SingleAnswer
 
 // A word whose opcode has a page.
 fn admit(operation: Operation, s: SingleWord) -> SingleAnswer
-    requires { decoded_of s.opcode ≡ Some operation }
+    requires { decoded_of s.opcode ≡ Ok operation }
     ensures { result ≡ single_of s }
 {
     if out_of_range(
@@ -261,7 +261,7 @@ pub fn single_word(s: SingleWord) -> SingleAnswer
     ensures pins { result.pins ≡ pins_in result.status }
 {
     match decode(s.opcode) {
-        None => refuse(s, Reason::Opcode),
-        Some(operation) => admit(operation, s),
+        Err(_) => refuse(s, Reason::Opcode),
+        Ok(operation) => admit(operation, s),
     }
 }

@@ -1,13 +1,11 @@
 -- A word of a sheet: six bytes, which are one number of 48 bits, most significant first; its fields; packing and unpacking with their
 -- reasons (document 01, 'Sheets and words' and 'Reasons given'; Idle is document 02's, request 5).
-use Rattle.std.specs.Prelude.{List, [], ◌∷◌, ◌++◌, Bool, false, not, ◌&&◌, ◌||◌, ℕ, ◌+◌, ◌*◌, ◌/◌, ◌%◌, ◌^◌, ◌<◌, length, get_or, drop, eqb, ltb}
-use Rattle.reasons.specs.Reasons.{Row, ◌gives◌at◌, first_of}
+use Rattle.std.specs.Prelude.{List, [], ◌∷◌, ◌++◌, Bool, false, not, ◌&&◌, ◌||◌, ℕ, ◌+◌, ◌*◌, ◌/◌, ◌%◌, ◌^◌, ◌<◌, length, get_or, drop, eqb, ltb, Result, Ok, Err}
+use Rattle.reasons.specs.Reasons.{Row, ◌gives◌at◌, Check, good, first_of}
 use Rattle.reasons.specs.declared.Reason.TheVariants.{Opcode, Inputs, Spare, Room, Idle}
-use Rattle.reasons.specs.declared.Check.{Check}
-use Rattle.reasons.specs.declared.Check.TheVariants.{Good, Bad}
+use Rattle.reasons.specs.declared.Refusal.{Refusal}
 use Rattle.chip.specs.declared.Word.{Word}
 use Rattle.chip.specs.Single.{lacks_page, out_of_range}
-use Rattle.packing.specs.declared.Unpacked.{Unpacked}
 
 -- ---- the number and its fields
 -- six bytes as one number
@@ -110,8 +108,8 @@ ended c d = record { check = c; bytes = d }
 
 -- a refusal changes no byte
 abbrev pub packed_by : Check → Word → List ℕ → Packed
-packed_by Good w d = ended Good (packed_into w d)
-packed_by (Bad r p) w d = ended (Bad r p) d
+packed_by (Ok done) w d = ended good (packed_into w d)
+packed_by (Err refusal) w d = ended (Err refusal) d
 
 unfoldable pub pack_of : Word → List ℕ → Packed
 pack_of w d = packed_by (first_of (pack_rows w (length d))) w d
@@ -125,7 +123,7 @@ unpack_rows s =
     ∷ (lacks_page (fields_of (number6 s)).opcode gives Opcode at 0)
     ∷ []
 
--- a refusal gives all fields 0
+-- all fields 0, which a refusal leaves
 abbrev pub blank : Word
 blank =
     record {
@@ -143,9 +141,14 @@ blank =
       borrow = 0;
     }
 
-abbrev pub unpacked_by : Check → Word → Unpacked
-unpacked_by Good w = record { check = Good; word = w }
-unpacked_by (Bad r p) w = record { check = Bad r p; word = blank }
+-- the word of an unpacking
+abbrev pub word_or_blank : Result Word Refusal → Word
+word_or_blank (Ok w) = w
+word_or_blank (Err refusal) = blank
 
-unfoldable pub unpack_of : List ℕ → Unpacked
+abbrev pub unpacked_by : Check → Word → Result Word Refusal
+unpacked_by (Ok done) w = Ok w
+unpacked_by (Err refusal) w = Err refusal
+
+unfoldable pub unpack_of : List ℕ → Result Word Refusal
 unpack_of s = unpacked_by (first_of (unpack_rows s)) (fields_of (number6 s))

@@ -3,19 +3,12 @@
 
 ghost use Rattle.std.specs.Prelude.{◌≡◌, ◌∷◌, ◌++◌, ◌+◌, ◌*◌, ◌%◌, ◌^◌, ◌<◌, ◌≤◌, length, drop, leb};
 ghost use Rattle.bits.specs.Bits.{choose};
-ghost use Rattle.reasons.specs.Reasons.{first_of, check_numbers};
-ghost use Rattle.packing.specs.Packing.{number6, fields_of, packed_number, bytes6, some, register_fields, too_large, left_idle, InRange, pack_rows, ended, pack_of, unpack_rows, unpack_of, unpacked_by, blank};
+ghost use Rattle.reasons.specs.Reasons.{first_of, check_by, check_numbers};
+ghost use Rattle.packing.specs.Packing.{number6, fields_of, packed_number, bytes6, some, register_fields, too_large, left_idle, InRange, pack_rows, ended, pack_of, unpack_rows, unpack_of, word_or_blank};
 ghost use Rattle.packing.specs.Registers.{only, sources_of, destination_of, names_of, Narrow};
 
 use chip::Word;
-use reasons::{Check, Reason};
-
-// What unpacking answers: the word where the check is good, else all fields 0.
-#[derive(Clone, Copy)]
-pub struct Unpacked {
-    pub check: Check,
-    pub word: Word,
-}
+use reasons::{Reason, Refusal, refuse_if};
 
 // Six bytes as one number, the first highest.
 fn joined(b0: u8, b1: u8, b2: u8, b3: u8, b4: u8, b5: u8) -> u64
@@ -127,26 +120,12 @@ pub fn bytes(w: Word) -> [u8; 6]
     six(packed_number(w))
 }
 
-// Six bytes into the first six of `d`.
-fn put(d: &mut [u8], b0: u8, b1: u8, b2: u8, b3: u8, b4: u8, b5: u8)
-    requires { 6 ≤ length d.old }
-    ensures { d.new ≡ b0 ∷ b1 ∷ b2 ∷ b3 ∷ b4 ∷ b5 ∷ drop 6 d.old }
-{
-    d[0] = b0;
-    d[1] = b1;
-    d[2] = b2;
-    d[3] = b3;
-    d[4] = b4;
-    d[5] = b5;
-}
-
 // A word's number into the first six bytes of `d`.
 fn put_number(v: u64, d: &mut [u8])
     requires { 6 ≤ length d.old }
     ensures { d.new ≡ bytes6 v ++ drop 6 d.old }
 {
-    let b = six(v);
-    put(d, b[0], b[1], b[2], b[3], b[4], b[5]);
+    d[..6].copy_from_slice(&six(v));
 }
 
 // ---- the registers that a word names, as a set
@@ -186,69 +165,35 @@ pub fn names(w: Word) -> u64
 // ---- packing and unpacking
 
 // Packing: the word into the first six bytes of `d`. Where it is refused `d` stays.
-pub fn pack(w: Word, d: &mut [u8]) -> Check
+pub fn pack(w: Word, d: &mut [u8]) -> Result<(), Refusal>
     ensures d_after { ended result d.new ≡ pack_of w d.old }
     ensures numbers { check_numbers result ≡ check_numbers (first_of (pack_rows w (length d.old))) }
 {
-    if chip::lacks_page(w.opcode) {
-        return Check::Bad {
-            reason: Reason::Opcode,
-            place: 0,
-        };
-    }
-    if too_large(w) {
-        return Check::Bad {
-            reason: Reason::Inputs,
-            place: 0,
-        };
-    }
-    if left_idle(w) {
-        return Check::Bad {
-            reason: Reason::Idle,
-            place: 0,
-        };
-    }
-    if d.len() < 6 {
-        return Check::Bad {
-            reason: Reason::Room,
-            place: 0,
-        };
-    }
+    refuse_if(chip::lacks_page(w.opcode), Reason::Opcode, 0)?;
+    refuse_if(too_large(w), Reason::Inputs, 0)?;
+    refuse_if(left_idle(w), Reason::Idle, 0)?;
+    refuse_if(d.len() < 6, Reason::Room, 0)?;
     put_number(packed_number(w), d);
-    Check::Good
-}
-
-// Unpacking refused: all fields are 0.
-fn refused(reason: Reason) -> Unpacked
-    ensures { result ≡ unpacked_by (Check.Bad reason 0) blank }
-{
-    Unpacked {
-        check: Check::Bad { reason, place: 0 },
-        word: fields(0),
-    }
+    Ok(())
 }
 
 // Unpacking: the word in the first six bytes of `s`.
-pub fn unpack(s: &[u8]) -> Unpacked
+pub fn unpack(s: &[u8]) -> Result<Word, Refusal>
     ensures value { result ≡ unpack_of s.now }
-    ensures numbers { check_numbers result.check ≡ check_numbers (first_of (unpack_rows s.now)) }
+    ensures numbers { check_numbers (check_by result) ≡ check_numbers (first_of (unpack_rows s.now)) }
 {
-    if s.len() < 6 {
-        return refused(Reason::Room);
-    }
+    refuse_if(s.len() < 6, Reason::Room, 0)?;
     let number = word_number(s);
-    if number % 32 != 0 {
-        return refused(Reason::Spare);
-    }
+    refuse_if(number % 32 != 0, Reason::Spare, 0)?;
     let word = fields(number);
-    if left_idle(word) {
-        return refused(Reason::Idle);
-    }
-    if chip::lacks_page(word.opcode) {
-        return refused(Reason::Opcode);
-    }
-    Unpacked {
-        check: Check::Good,
-        word,
-    }
+    refuse_if(left_idle(word), Reason::Idle, 0)?;
+    refuse_if(chip::lacks_page(word.opcode), Reason::Opcode, 0)?;
+    Ok(word)
+}
+
+// The word that unpacking answers, for a caller that takes one in any case: all fields 0 where it is refused.
+pub fn word_or_blank(unpacked: Result<Word, Refusal>) -> Word
+    ensures { result ≡ word_or_blank unpacked }
+{
+    unpacked.unwrap_or(fields(0))
 }

@@ -4,18 +4,18 @@ use mathlib.Core.List.{List}
 use Prim.Native.Nat.{ℕ}
 use Rattle.std.proofs.Common.{Result, Ok, Err}
 use Rattle.reasons.specs.declared.Refusal.{Refusal}
-use Rattle.reasons.specs.Reasons.{Check, check_numbers}
-use Rattle.reasons.specs.Output.{Wrote, wrote, wrote_by, written_check}
+use Rattle.reasons.specs.Reasons.{Check, check_by, check_numbers}
+use Rattle.reasons.specs.Output.{Wrote, wrote, wrote_by}
 
 -- the check that it was made by
-pub wrote-check : (c : Check) (out d : List ℕ) → written_check (wrote_by c out d).answer ≡ c
+pub wrote-check : (c : Check) (out d : List ℕ) → check_by (wrote_by c out d).answer ≡ c
 wrote-check (Ok done) out d = refl
 wrote-check (Err refusal) out d = refl
 
 -- its numbers too
 pub wrote-numbers : (c : Check) (out d : List ℕ) {a : Result ℕ Refusal} {b : List ℕ} → wrote a b ≡ wrote_by c out d
-    → (wrote a b ≡ wrote_by c out d) × (check_numbers (written_check a) ≡ check_numbers c)
-wrote-numbers c out d e = (e, ap check_numbers (ap (λ (x : Wrote). written_check x.answer) e ∙ wrote-check c out d))
+    → (wrote a b ≡ wrote_by c out d) × (check_numbers (check_by a) ≡ check_numbers c)
+wrote-numbers c out d e = (e, ap check_numbers (ap (λ (x : Wrote). check_by x.answer) e ∙ wrote-check c out d))
 
 -- no second answer and buffer
 pub one-wrote : (w : Wrote) (a b : Result ℕ Refusal) (l m : List ℕ) → wrote a l ≡ w → wrote b m ≡ w → (a ≡ b) × (l ≡ m)

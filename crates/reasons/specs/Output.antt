@@ -1,7 +1,7 @@
 -- What a call leaves that writes into a lent buffer.
 use Rattle.std.specs.Prelude.{List, ◌++◌, ℕ, length, drop, Result, Ok, Err}
 use Rattle.reasons.specs.declared.Refusal.{Refusal}
-use Rattle.reasons.specs.Reasons.{Check, good}
+use Rattle.reasons.specs.Reasons.{Check}
 
 -- its answer, which is how many bytes it wrote or a refusal, and the buffer afterwards
 pub record Wrote : Type 0 where
@@ -10,11 +10,6 @@ pub record Wrote : Type 0 where
 
 abbrev pub wrote : Result ℕ Refusal → List ℕ → Wrote
 wrote a d = record { answer = a; buffer = d }
-
--- of an answer, whether it is refused
-abbrev pub written_check : Result ℕ Refusal → Check
-written_check (Ok bytes) = good
-written_check (Err refusal) = Err refusal
 
 -- how many bytes were written, and they stand at the start: the bytes past them stay; a refusal changes no byte
 abbrev pub wrote_by : Check → List ℕ → List ℕ → Wrote

@@ -39,6 +39,11 @@ good = Ok tt
 abbrev pub refused : Reason → ℕ → Check
 refused reason place = Err (record { reason = reason; place = place })
 
+-- of an answer, whether it is refused
+abbrev pub check_by : {A : Type 0} → Result A Refusal → Check
+check_by (Ok value) = good
+check_by (Err refusal) = Err refusal
+
 -- a run's answer in numbers: 0 and the number of words run, or the number and the place of a refusal
 abbrev pub answer_numbers : Result ℕ Refusal → Outcome
 answer_numbers (Ok count) = outcome_of Done count

@@ -1,8 +1,8 @@
 // The reasons that document 01 gives and document 02 adds, and what a check answers.
 #![tactic(auto)]
 
-ghost use Rattle.std.specs.Prelude.{◌≡◌};
-ghost use Rattle.reasons.specs.Reasons.{number_of, outcome_of, check_numbers, answer_numbers};
+ghost use Rattle.std.specs.Prelude.{◌≡◌, [], ◌∷◌};
+ghost use Rattle.reasons.specs.Reasons.{◌gives◌at◌, first_of, number_of, outcome_of, check_numbers, answer_numbers};
 
 // What a call answers for: done, or why it is refused. Done is one of them, since the paper numbers it with the others.
 #[derive(Clone, Copy, PartialEq, Eq)]
@@ -40,6 +40,16 @@ pub struct Refusal {
 pub struct Outcome {
     pub reason: u32,
     pub place: u64,
+}
+
+// Refused where a condition holds: one row of a table of reasons.
+pub fn refuse_if(holds: bool, reason: Reason, place: usize) -> Result<(), Refusal>
+    ensures { result ≡ first_of ((holds gives reason at place) ∷ []) }
+{
+    if holds {
+        return Err(Refusal { reason, place });
+    }
+    Ok(())
 }
 
 // The paper's number of a reason.
