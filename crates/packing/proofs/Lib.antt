@@ -2,3 +2,4 @@
 pub mod Numbers
 pub mod Ends
 pub mod Registers
+pub mod RoundTrip

@@ -8,6 +8,7 @@ use native.Mathlib.Omega.{arith}
 use native.Mathlib.Decide.{ℕ_discrete}
 use Rattle.reasons.specs.Reasons.{Row, ◌gives◌at◌, first_of, none_hold, rows_by, refused, Check, good, or_else}
 use Rattle.std.proofs.Common.{Result, Ok, Err}
+use Rattle.std.specs.Result.{IsErrAnd}
 use Rattle.reasons.specs.declared.Reason.{Reason}
 use Rattle.reasons.specs.declared.Refusal.{Refusal}
 use Rattle.reasons.specs.declared.Reason.TheVariants.{Done}
@@ -84,18 +85,10 @@ first_bad (x ∷ xs) b r p e = go x.holds refl e (first_bad xs b r p)
     go true h f i = rw h f
     go false h f i = rw h (i f)
 
--- row by row, each asked by itself: where one does not refuse, its condition does not hold, and what follows is asked; where it does, the table does
-pub row_false : (holds : Bool) (x : Refusal) → or_else holds (Err x) good ≡ good → holds ≡ false
-row_false true x e = cc
-row_false false x e = refl
-
-pub row_good : (holds : Bool) (x : Refusal) (rest : Check) → or_else holds (Err x) good ≡ good → or_else holds (Err x) rest ≡ rest
-row_good true x rest e = cc
-row_good false x rest e = refl
-
-pub row_bad : (holds : Bool) (x y : Refusal) (rest : Check) → or_else holds (Err x) good ≡ Err y → or_else holds (Err x) rest ≡ Err y
-row_bad true x y rest e = e
-row_bad false x y rest e = cc
+-- what `?` passes on
+pub passed_on : {A : Type 0} (r : Result A Refusal) (x : Refusal) → IsErrAnd r (λ y. y ≡ x) → r ≡ Err x
+passed_on (Ok v) x h = absurd h
+passed_on (Err y) x h = ap Err h
 
 -- a reason is given exactly where a row of that reason holds and no earlier row does
 pub record First (rows : List Row) (r : Reason) (p : ℕ) : Type 0 where

@@ -1,7 +1,7 @@
 // The reasons that document 01 gives and document 02 adds, and what a check answers.
 #![tactic(auto)]
 
-ghost use Rattle.std.specs.Prelude.{◌≡◌, [], ◌∷◌};
+ghost use Rattle.std.specs.Prelude.{◌≡◌, [], ◌∷◌, true, false, IfOk, IfErr};
 ghost use Rattle.reasons.specs.Reasons.{◌gives◌at◌, first_of, number_of, outcome_of, check_numbers, answer_numbers};
 
 // What a call answers for: done, or why it is refused. Done is one of them, since the paper numbers it with the others.
@@ -44,7 +44,9 @@ pub struct Outcome {
 
 // Refused where a condition holds: one row of a table of reasons.
 pub fn refuse_if(holds: bool, reason: Reason, place: usize) -> Result<(), Refusal>
-    ensures { result ≡ first_of ((holds gives reason at place) ∷ []) }
+    ensures value { result ≡ first_of ((holds gives reason at place) ∷ []) }
+    ensures passed { IfOk result (λ done. holds ≡ false) }
+    ensures held { IfErr result (λ refusal. (holds ≡ true) × (refusal ≡ record { reason = reason; place = place })) }
 {
     if holds {
         return Err(Refusal { reason, place });
