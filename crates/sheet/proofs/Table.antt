@@ -8,15 +8,13 @@ use native.Mathlib.Omega.{arith}
 use borrow.Author.Tests.{lt-ltb, le-ltb, eqb-true, eqb-false, ltb-false, leb-false, not-false}
 use lib.ListN.{length, length-take, length-drop}
 use lib.Dec.{eqb, ltb, leb}
-use Rattle.reasons.specs.Reasons.{Row, first_of, none_hold, rows_by}
+use Rattle.reasons.specs.Reasons.{Row, Check, good, refused, first_of, none_hold, rows_by}
 use Rattle.reasons.specs.declared.Reason.{Reason}
 use Rattle.reasons.specs.declared.Reason.TheVariants.{Short}
-use Rattle.reasons.specs.declared.Check.{Check}
-use Rattle.reasons.specs.declared.Check.TheVariants.{Good, Bad}
 use Rattle.reasons.proofs.Rows.{None, First, good_none, first_bad, first_good, exactly_if, exactly_only, none_at, none_good, none_left, none_right, none_both}
 use Rattle.reasons.proofs.Rows.None.{none, more}
-use Rattle.sheet.specs.declared.Given.{Given}
-use Rattle.sheet.specs.declared.Given.TheVariants.{Absent, Number}
+use Rattle.std.proofs.Common.{Option, Some, None as Nothing, Err}
+use Rattle.reasons.specs.declared.Refusal.{Refusal}
 use Rattle.packing.specs.Packing.{register_fields, differ}
 use Rattle.sheet.specs.Sheet.{number4, count_of, registers_of, zeros_of, words_of, declared_of, part_of, number_at, word_at, executions_of, fewer, number_rows, word_rows, head_rows, start_rows, rows_beside, check_beside, sheet_rows, check_of, input_of, WordReady, Ready}
 use Rattle.packing.proofs.Numbers.{page_small, or_left, or_right, Every, every, fields_range}
@@ -26,7 +24,7 @@ pub part-six : (s : List ℕ) (k : ℕ) → 4 + 6 * k + 6 ≤ length s → lengt
 part-six s k h = simp (length-take, length-drop) (omega arith)
 
 -- ---- how a check goes through the table
-module _ (beside : ℕ) (s : List ℕ) (file start : Given) where
+module _ (beside : ℕ) (s : List ℕ) (file start : Option ℕ) where
   abbrev pub head : List Row
   head = head_rows beside (length s) (number4 s) file
 
@@ -36,20 +34,20 @@ module _ (beside : ℕ) (s : List ℕ) (file start : Given) where
   abbrev pub tail : List Row
   tail = start_rows start (length (executions_of s))
 
-  pub check_short : length s < 4 → Bad Short 0 ≡ check_beside beside s file start
+  pub check_short : length s < 4 → refused Short 0 ≡ check_beside beside s file start
   unfolding check_beside rows_beside
   check_short h = rw (lt-ltb (length s) 4 h) refl
 
-  pub check-head : (r : Reason) (p : ℕ) → 4 ≤ length s → first_of head ≡ Bad r p → Bad r p ≡ check_beside beside s file start
+  pub check-head : (x : Refusal) → 4 ≤ length s → first_of head ≡ Err x → Err x ≡ check_beside beside s file start
   unfolding check_beside rows_beside
-  check-head r p h e = rw (le-ltb (length s) 4 h) (sym (first_bad head (body ++ tail) r p e))
+  check-head x h e = rw (le-ltb (length s) 4 h) (sym (first_bad head (body ++ tail) x.reason x.place e))
 
-  pub check-body : (r : Reason) (p : ℕ) → 4 ≤ length s → first_of head ≡ Good → first_of body ≡ Bad r p → Bad r p ≡ check_beside beside s file start
+  pub check-body : (x : Refusal) → 4 ≤ length s → first_of head ≡ good → first_of body ≡ Err x → Err x ≡ check_beside beside s file start
   unfolding check_beside rows_beside
-  check-body r p h e f =
-      rw (le-ltb (length s) 4 h) (sym (first_good head (body ++ tail) e ∙ first_bad body tail r p f))
+  check-body x h e f =
+      rw (le-ltb (length s) 4 h) (sym (first_good head (body ++ tail) e ∙ first_bad body tail x.reason x.place f))
 
-  pub check-tail : 4 ≤ length s → first_of head ≡ Good → first_of body ≡ Good → first_of tail ≡ check_beside beside s file start
+  pub check-tail : 4 ≤ length s → first_of head ≡ good → first_of body ≡ good → first_of tail ≡ check_beside beside s file start
   unfolding check_beside rows_beside
   check-tail h e f = rw (le-ltb (length s) 4 h) (sym (first_good head (body ++ tail) e ∙ first_good body tail f))
 
@@ -66,7 +64,7 @@ module _ (s : List ℕ) (h n m : ℕ) (eh : h ≡ number4 s) (em : m ≡ count_o
   pub seen_body : (c : Check) → c ≡ first_of (rows_by (word_rows s n) 0 m) → first_of (rows_by (word_rows s (declared_of s)) 0 (words_of s)) ≡ c
   seen_body c e = rw (← seen_words, ← seen_declared) (sym e)
 
-pub seen_head : (beside : ℕ) (s : List ℕ) (file : Given) (h : ℕ) (c : Check) → h ≡ number4 s → c ≡ first_of (head_rows beside (length s) h file)
+pub seen_head : (beside : ℕ) (s : List ℕ) (file : Option ℕ) (h : ℕ) (c : Check) → h ≡ number4 s → c ≡ first_of (head_rows beside (length s) h file)
     → first_of (head_rows beside (length s) (number4 s) file) ≡ c
 seen_head beside s file h c eh e = rw (← eh) (sym e)
 
@@ -76,7 +74,7 @@ unfolding word_rows
 seen_word s n k v b ev e = e ∙ ap (λ (x : ℕ). none_hold (number_rows x n 0)) ev
 
 -- the length of a sheet whose header passed
-pub head-length : (beside len h : ℕ) (file : Given) → first_of (head_rows beside len h file) ≡ Good → 4 + 6 * count_of h ≤ len
+pub head-length : (beside len h : ℕ) (file : Option ℕ) → first_of (head_rows beside len h file) ≡ good → 4 + 6 * count_of h ≤ len
 head-length beside len h file e = go (good_none (head_rows beside len h file) e)
   where
     go : None (head_rows beside len h file) → 4 + 6 * count_of h ≤ len
@@ -84,11 +82,11 @@ head-length beside len h file e = go (good_none (head_rows beside len h file) e)
 
 -- ---- Each reason is given exactly when its condition holds and no earlier one does: a check of a sheet answers reason r at place p exactly
 -- where some row of the table gives r at p, its condition holds, and the condition of no row before it does.
-pub given_if : (beside : ℕ) (s : List ℕ) (file start : Given) (r : Reason) (p : ℕ) → First (rows_beside beside s file start) r p → check_beside beside s file start ≡ Bad r p
+pub given_if : (beside : ℕ) (s : List ℕ) (file start : Option ℕ) (r : Reason) (p : ℕ) → First (rows_beside beside s file start) r p → check_beside beside s file start ≡ refused r p
 unfolding check_beside
 given_if beside s file start r p f = exactly_if (rows_beside beside s file start) r p f
 
-pub given-only : (beside : ℕ) (s : List ℕ) (file start : Given) (r : Reason) (p : ℕ) → check_beside beside s file start ≡ Bad r p → First (rows_beside beside s file start) r p
+pub given-only : (beside : ℕ) (s : List ℕ) (file start : Option ℕ) (r : Reason) (p : ℕ) → check_beside beside s file start ≡ refused r p → First (rows_beside beside s file start) r p
 unfolding check_beside
 given-only beside s file start r p e = exactly_only (rows_beside beside s file start) r p e
 
@@ -109,8 +107,8 @@ word_ready s n k (more h₁ (more h₂ (more h₃ (more h₄ none)))) = go (ever
         }
 
 -- with any file that is not too small for the check
-ready_with : (beside : ℕ) (s : List ℕ) (file start : Given) (n : ℕ) → (fewer file (declared_of s) ≡ false → declared_of s ≤ n)
-    → check_beside beside s file start ≡ Good → Ready s n
+ready_with : (beside : ℕ) (s : List ℕ) (file start : Option ℕ) (n : ℕ) → (fewer file (declared_of s) ≡ false → declared_of s ≤ n)
+    → check_beside beside s file start ≡ good → Ready s n
 unfolding check_beside rows_beside words_of declared_of
 ready_with beside s file start n enough e = go (good_none (rows_beside beside s file start) e)
   where
@@ -138,40 +136,40 @@ ready_with beside s file start n enough e = go (good_none (rows_beside beside s 
         }
 
 -- A sheet that was checked with a file of `lent` registers can be run on them.
-pub ready : (s : List ℕ) (lent : ℕ) (start : Given) → check_of s (Number lent) start ≡ Good → Ready s lent
-ready s lent start e = ready_with 0 s (Number lent) start lent (λ h. ltb-false lent (declared_of s) h) e
+pub ready : (s : List ℕ) (lent : ℕ) (start : Option ℕ) → check_of s (Some lent) start ≡ good → Ready s lent
+ready s lent start e = ready_with 0 s (Some lent) start lent (λ h. ltb-false lent (declared_of s) h) e
 
 -- One that was checked on its own can be run on as many as it declares.
-pub ready_alone : (beside : ℕ) (s : List ℕ) (start : Given) → check_beside beside s Absent start ≡ Good → Ready s (declared_of s)
-ready_alone beside s start e = ready_with beside s Absent start (declared_of s) (λ h. omega arith) e
+pub ready_alone : (beside : ℕ) (s : List ℕ) (start : Option ℕ) → check_beside beside s Nothing start ≡ good → Ready s (declared_of s)
+ready_alone beside s start e = ready_with beside s Nothing start (declared_of s) (λ h. omega arith) e
 
 -- registers that were checked to stand after it are there
-pub input_length : (x : List ℕ) → input_of x ≡ Good → length x ≡ 4 + 6 * words_of x + 4 * declared_of x
+pub input_length : (x : List ℕ) → input_of x ≡ good → length x ≡ 4 + 6 * words_of x + 4 * declared_of x
 unfolding check_beside rows_beside words_of declared_of
-input_length x e = go (good_none (rows_beside 4 x Absent Absent) e)
+input_length x e = go (good_none (rows_beside 4 x Nothing Nothing) e)
   where
-    go : None (rows_beside 4 x Absent Absent) → length x ≡ 4 + 6 * words_of x + 4 * declared_of x
+    go : None (rows_beside 4 x Nothing Nothing) → length x ≡ 4 + 6 * words_of x + 4 * declared_of x
     go (more h₁ (more h₂ (more h₃ (more h₄ t)))) = eqb-true (length x) (4 + 6 * words_of x + 4 * declared_of x) (not-false _ h₄)
 
 -- a start that was checked is at most the executions
-pub start_within : (s : List ℕ) (file : Given) (start : ℕ) → check_of s file (Number start) ≡ Good → start ≤ length (executions_of s)
+pub start_within : (s : List ℕ) (file : Option ℕ) (start : ℕ) → check_of s file (Some start) ≡ good → start ≤ length (executions_of s)
 unfolding check_beside rows_beside
-start_within s file start e = go (good_none (sheet_rows s file (Number start)) e)
+start_within s file start e = go (good_none (sheet_rows s file (Some start)) e)
   where
-    last : None (tail 0 s file (Number start)) → start ≤ length (executions_of s)
+    last : None (tail 0 s file (Some start)) → start ≤ length (executions_of s)
     last (more h none) = ltb-false (length (executions_of s)) start h
 
-    go : None (sheet_rows s file (Number start)) → start ≤ length (executions_of s)
-    go (more h₁ (more h₂ (more h₃ (more h₄ (more h₅ t))))) = last (none_right (body 0 s file (Number start)) (tail 0 s file (Number start)) t)
+    go : None (sheet_rows s file (Some start)) → start ≤ length (executions_of s)
+    go (more h₁ (more h₂ (more h₃ (more h₄ (more h₅ t))))) = last (none_right (body 0 s file (Some start)) (tail 0 s file (Some start)) t)
 
 -- a check that passes with one start, or with none, passes with any that is no later than the executions
-pub start-later : (s : List ℕ) (file start : Given) (next : ℕ) → check_of s file start ≡ Good → next ≤ length (executions_of s)
-    → check_of s file (Number next) ≡ Good
+pub start-later : (s : List ℕ) (file start : Option ℕ) (next : ℕ) → check_of s file start ≡ good → next ≤ length (executions_of s)
+    → check_of s file (Some next) ≡ good
 unfolding check_beside rows_beside
-start-later s file start next e h = none_good (sheet_rows s file (Number next)) (go (good_none (sheet_rows s file start) e))
+start-later s file start next e h = none_good (sheet_rows s file (Some next)) (go (good_none (sheet_rows s file start) e))
   where
-    go : None (sheet_rows s file start) → None (sheet_rows s file (Number next))
+    go : None (sheet_rows s file start) → None (sheet_rows s file (Some next))
     go (more h₁ (more h₂ (more h₃ (more h₄ (more h₅ t))))) =
         more h₁ (more h₂ (more h₃ (more h₄ (more h₅
-        (none_both (body 0 s file start) (tail 0 s file (Number next)) (none_left (body 0 s file start) (tail 0 s file start) t)
+        (none_both (body 0 s file start) (tail 0 s file (Some next)) (none_left (body 0 s file start) (tail 0 s file start) t)
         (more (le-ltb (length (executions_of s)) next h) none))))))

@@ -1,15 +1,12 @@
 -- A sheet: its header, its words, and the reasons for which it is refused, as one ordered table (document 01, 'Sheets and words' and
 -- 'Reasons given'; Idle is document 02's, request 5).
-use Rattle.std.specs.Prelude.{◌≡◌, List, [], ◌∷◌, ◌++◌, Bool, false, ◌||◌, ℕ, zero, suc, ◌+◌, ◌-◌, ◌*◌, ◌/◌, ◌%◌, ◌^◌, ◌<◌, ◌≤◌, length, get_or, take, drop, eqb, ltb, leb}
+use Rattle.std.specs.Prelude.{◌≡◌, List, [], ◌∷◌, ◌++◌, Bool, false, ◌||◌, ℕ, zero, suc, ◌+◌, ◌-◌, ◌*◌, ◌/◌, ◌%◌, ◌^◌, ◌<◌, ◌≤◌, length, get_or, take, drop, eqb, ltb, leb, Option, Some, None}
 use Rattle.bits.specs.Bits.{bytes4}
-use Rattle.reasons.specs.Reasons.{Row, ◌gives◌at◌, first_of, rows_by}
+use Rattle.reasons.specs.Reasons.{Row, ◌gives◌at◌, Check, first_of, rows_by}
 use Rattle.reasons.specs.declared.Reason.TheVariants.{Opcode, Short, Version, Header, Length, File, Spare, Register, Start, Idle}
-use Rattle.reasons.specs.declared.Check.{Check}
 use Rattle.chip.specs.declared.Word.{Word}
 use Rattle.sheet.specs.declared.Which.{Which}
 use Rattle.sheet.specs.declared.Which.TheVariants.{Main, Handler}
-use Rattle.sheet.specs.declared.Given.{Given}
-use Rattle.sheet.specs.declared.Given.TheVariants.{Absent, Number}
 use Rattle.chip.specs.Single.{lacks_page}
 use Rattle.packing.specs.Packing.{number6, fields_of, spare_of, some, register_fields, left_idle, differ, InRange}
 use Rattle.packing.specs.Registers.{names_all}
@@ -81,14 +78,14 @@ abbrev pub bad_header : ℕ → Bool
 bad_header h = differ (zeros_of h) 0 || eqb (registers_of h) 0 || ltb 64 (registers_of h)
 
 -- File: fewer registers lent than declared; a call that lends no file skips it
-abbrev pub fewer : Given → ℕ → Bool
-fewer Absent n = false
-fewer (Number lent) n = ltb lent n
+abbrev pub fewer : Option ℕ → ℕ → Bool
+fewer None n = false
+fewer (Some lent) n = ltb lent n
 
 -- Start: start above the executions; a call that takes no start skips it
-abbrev pub above : Given → ℕ → Bool
-above Absent n = false
-above (Number start) n = ltb n start
+abbrev pub above : Option ℕ → ℕ → Bool
+above None n = false
+above (Some start) n = ltb n start
 
 -- ---- the table
 -- word k, whose number is v, of a sheet of n registers: 8, 17, 1, 9
@@ -108,41 +105,41 @@ abbrev pub opening_rows : ℕ → List Row
 opening_rows h = (differ (version_of h) 1 gives Version at 0) ∷ (bad_header h gives Header at 0) ∷ []
 
 -- len bytes whose header is h, with so many bytes beside the sheet for each register that it declares: 6, 7
-abbrev pub size_rows : ℕ → ℕ → ℕ → Given → List Row
+abbrev pub size_rows : ℕ → ℕ → ℕ → Option ℕ → List Row
 size_rows beside len h file =
     (differ len (4 + 6 * count_of h + beside * registers_of h) gives Length at 0)
     ∷ (fewer file (registers_of h) gives File at 0)
     ∷ []
 
 -- both: 4, 5, 6, 7
-abbrev pub head_rows : ℕ → ℕ → ℕ → Given → List Row
+abbrev pub head_rows : ℕ → ℕ → ℕ → Option ℕ → List Row
 head_rows beside len h file = opening_rows h ++ size_rows beside len h file
 
 -- 10, of a sheet of n executions
-abbrev pub start_rows : Given → ℕ → List Row
+abbrev pub start_rows : Option ℕ → ℕ → List Row
 start_rows start n = (above start n gives Start at 0) ∷ []
 
 -- 3 to 7, then words in order, in each 8, 17, 1, 9; then 10
-unfoldable pub rows_beside : ℕ → List ℕ → Given → Given → List Row
+unfoldable pub rows_beside : ℕ → List ℕ → Option ℕ → Option ℕ → List Row
 rows_beside beside s file start =
     (ltb (length s) 4 gives Short at 0)
     ∷ (head_rows beside (length s) (number4 s) file
     ++ (rows_by (word_rows s (declared_of s)) 0 (words_of s)
     ++ start_rows start (length (executions_of s))))
 
-unfoldable pub check_beside : ℕ → List ℕ → Given → Given → Check
+unfoldable pub check_beside : ℕ → List ℕ → Option ℕ → Option ℕ → Check
 check_beside beside s file start = first_of (rows_beside beside s file start)
 
 -- a sheet by itself
-abbrev pub sheet_rows : List ℕ → Given → Given → List Row
+abbrev pub sheet_rows : List ℕ → Option ℕ → Option ℕ → List Row
 sheet_rows s file start = rows_beside 0 s file start
 
-abbrev pub check_of : List ℕ → Given → Given → Check
+abbrev pub check_of : List ℕ → Option ℕ → Option ℕ → Check
 check_of s file start = check_beside 0 s file start
 
 -- a sheet with the registers that it declares after it, four bytes each
 abbrev pub input_of : List ℕ → Check
-input_of x = check_beside 4 x Absent Absent
+input_of x = check_beside 4 x None None
 
 -- ---- what a sheet that passed has
 -- a word that can be run on n registers

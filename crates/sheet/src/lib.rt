@@ -2,13 +2,13 @@
 #![tactic(auto)]
 
 ghost use Rattle.std.specs.Prelude.{◌≡◌, ◌+◌, ◌*◌, ◌≤◌, length};
-ghost use Rattle.reasons.specs.Reasons.{first_of, none_hold, rows_by, check_numbers};
+ghost use Rattle.reasons.specs.Reasons.{first_of, none_hold, rows_by, check_by, check_numbers};
 ghost use Rattle.packing.specs.Registers.{Narrow};
 ghost use Rattle.sheet.specs.Sheet.{number4, version_of, count_of, registers_of, words_of, declared_of, part_of, number_at, word_at, executions_of, sheet_of, bad_header, fewer, number_rows, word_rows, opening_rows, head_rows, start_rows, check_beside, check_of, input_of};
-ghost use Rattle.sheet.specs.Heading.{heading_rows, headed_by, heading_of};
+ghost use Rattle.sheet.specs.Heading.{heading_rows, heading_of};
 
 use chip::Word;
-use reasons::{Check, Reason};
+use reasons::{Reason, Refusal, refuse_if};
 
 // Which of two lent sheets a word comes from.
 #[derive(Clone, Copy)]
@@ -17,17 +17,9 @@ pub enum Which {
     Handler,
 }
 
-// A number that a call may hand in beside a sheet: the registers lent, the start word.
-#[derive(Clone, Copy)]
-pub enum Given {
-    Absent,
-    Number(usize),
-}
-
-// What a header says: its three numbers where the check is good, else 0.
+// What a header says: its three numbers.
 #[derive(Clone, Copy)]
 pub struct Heading {
-    pub check: Check,
     pub version: u32,
     pub words: u32,
     pub registers: u32,
@@ -138,109 +130,58 @@ fn bad_header(h: u32) -> bool
 }
 
 // Whether a file is lent and has fewer than n registers.
-fn lends_fewer(file: Given, n: usize) -> bool
+fn lends_fewer(file: Option<usize>, n: usize) -> bool
     ensures { result ≡ fewer file n }
 {
     match file {
-        Given::Absent => false,
-        Given::Number(lent) => lent < n,
+        None => false,
+        Some(lent) => lent < n,
     }
 }
 
 // Reason 10: a start is given and lies above n.
-fn check_position(start: Given, n: usize) -> Check
+fn check_position(start: Option<usize>, n: usize) -> Result<(), Refusal>
     ensures { result ≡ first_of (start_rows start n) }
 {
-    let Given::Number(at) = start else {
-        return Check::Good;
-    };
-    if n < at {
-        return Check::Bad {
-            reason: Reason::Start,
-            place: 0,
-        };
+    match start {
+        None => Ok(()),
+        Some(at) => refuse_if(n < at, Reason::Start, 0),
     }
-    Check::Good
 }
 
 // Reasons 4 and 5 of a header h.
-fn check_opening(h: u32) -> Check
+fn check_opening(h: u32) -> Result<(), Refusal>
     ensures { result ≡ first_of (opening_rows h) }
 {
-    if h >> 28 != 1 {
-        return Check::Bad {
-            reason: Reason::Version,
-            place: 0,
-        };
-    }
-    if bad_header(h) {
-        return Check::Bad {
-            reason: Reason::Header,
-            place: 0,
-        };
-    }
-    Check::Good
+    refuse_if(h >> 28 != 1, Reason::Version, 0)?;
+    refuse_if(bad_header(h), Reason::Header, 0)
 }
 
 // Reasons 4 to 7 of `len` bytes whose header is h, with so many bytes beside the sheet for each register that it declares.
-fn check_header(beside: usize, len: usize, h: u32, file: Given) -> Check
+fn check_header(beside: usize, len: usize, h: u32, file: Option<usize>) -> Result<(), Refusal>
     requires { beside ≤ 4 }
     ensures { result ≡ first_of (head_rows beside len h file) }
 {
-    let opening = check_opening(h);
-    if let Check::Bad { reason, place } = opening {
-        return Check::Bad { reason, place };
-    }
+    check_opening(h)?;
     let n = registers(h) as usize;
-    if len != 4 + 6 * count(h) + beside * n {
-        return Check::Bad {
-            reason: Reason::Length,
-            place: 0,
-        };
-    }
-    if lends_fewer(file, n) {
-        return Check::Bad {
-            reason: Reason::File,
-            place: 0,
-        };
-    }
-    Check::Good
+    let whole = 4 + 6 * count(h) + beside * n;
+    refuse_if(len != whole, Reason::Length, 0)?;
+    refuse_if(lends_fewer(file, n), Reason::File, 0)
 }
 
 // Reasons 8, 17, 1 and 9 of word k, whose number is v, in a sheet of n registers.
-fn check_number(v: u64, n: u32, k: usize) -> Check
+fn check_number(v: u64, n: u32, k: usize) -> Result<(), Refusal>
     ensures { result ≡ first_of (number_rows v n k) }
 {
-    if v % 32 != 0 {
-        return Check::Bad {
-            reason: Reason::Spare,
-            place: k,
-        };
-    }
+    refuse_if(v % 32 != 0, Reason::Spare, k)?;
     let w = packing::fields(v);
-    if packing::left_idle(w) {
-        return Check::Bad {
-            reason: Reason::Idle,
-            place: k,
-        };
-    }
-    if chip::lacks_page(w.opcode) {
-        return Check::Bad {
-            reason: Reason::Opcode,
-            place: k,
-        };
-    }
-    if packing::names_from(n, w) {
-        return Check::Bad {
-            reason: Reason::Register,
-            place: k,
-        };
-    }
-    Check::Good
+    refuse_if(packing::left_idle(w), Reason::Idle, k)?;
+    refuse_if(chip::lacks_page(w.opcode), Reason::Opcode, k)?;
+    refuse_if(packing::names_from(n, w), Reason::Register, k)
 }
 
 // Reasons 8, 17, 1 and 9 of word k, from the sheet's bytes.
-fn check_word(s: &[u8], n: u32, k: usize) -> Check
+fn check_word(s: &[u8], n: u32, k: usize) -> Result<(), Refusal>
     requires { 4 + 6 * k + 6 ≤ length s.now }
     ensures { result ≡ first_of (word_rows s.now n k) }
 {
@@ -248,19 +189,14 @@ fn check_word(s: &[u8], n: u32, k: usize) -> Check
 }
 
 // The words in order: the first fault of the first word that has one.
-fn first_fault(s: &[u8], count: usize, n: u32) -> Check
+fn first_fault(s: &[u8], count: usize, n: u32) -> Result<(), Refusal>
     requires { 4 + 6 * count ≤ length s.now }
     ensures { result ≡ first_of (rows_by (word_rows s.now n) 0 count) }
 {
-    let mut k: usize = 0;
-    while k < count {
-        let c = check_word(s, n, k);
-        if let Check::Bad { reason, place } = c {
-            return Check::Bad { reason, place };
-        }
-        k += 1;
+    for k in 0..count {
+        check_word(s, n, k)?;
     }
-    Check::Good
+    Ok(())
 }
 
 // Whether word number v has no fault in a sheet of n registers: the tests of `check_number` at once, without a branch for each.
@@ -278,113 +214,82 @@ fn all_sound(s: &[u8], count: usize, n: u32) -> bool
     requires { 4 + 6 * count ≤ length s.now }
     ensures { result ≡ none_hold (rows_by (word_rows s.now n) 0 count) }
 {
-    let mut next: usize = 0;
-    while next < count {
+    for next in 0..count {
         if !sound(number_at(s, s, Which::Main, next), n) {
             return false;
         }
-        next += 1;
     }
     true
 }
 
 // The words in order: the first fault of the first word that has one, which is looked for only where there is one.
-fn check_words(s: &[u8], count: usize, n: u32) -> Check
+fn check_words(s: &[u8], count: usize, n: u32) -> Result<(), Refusal>
     requires { 4 + 6 * count ≤ length s.now }
     ensures { result ≡ first_of (rows_by (word_rows s.now n) 0 count) }
 {
     if all_sound(s, count, n) {
-        return Check::Good;
+        return Ok(());
     }
     first_fault(s, count, n)
 }
 
 // The whole table: 3 to 7, then the words, then 10.
-fn check(beside: usize, s: &[u8], file: Given, start: Given) -> Check
+fn check(beside: usize, s: &[u8], file: Option<usize>, start: Option<usize>) -> Result<(), Refusal>
     requires { beside ≤ 4 }
     ensures { result ≡ check_beside beside s.now file start }
 {
-    if s.len() < 4 {
-        return Check::Bad {
-            reason: Reason::Short,
-            place: 0,
-        };
-    }
+    refuse_if(s.len() < 4, Reason::Short, 0)?;
     let h = header(s);
-    let head = check_header(beside, s.len(), h, file);
-    if let Check::Bad { reason, place } = head {
-        return Check::Bad { reason, place };
-    }
-    let body = check_words(s, count(h), registers(h));
-    if let Check::Bad { reason, place } = body {
-        return Check::Bad { reason, place };
-    }
+    check_header(beside, s.len(), h, file)?;
+    check_words(s, count(h), registers(h))?;
     check_position(start, executions(s))
 }
 
 // A sheet on its own: no file is lent and no start word given, so 7 and 10 are skipped.
-pub fn check_sheet(s: &[u8]) -> Check
-    ensures value { result ≡ check_of s.now Given.Absent Given.Absent }
-    ensures numbers { check_numbers result ≡ check_numbers (check_of s.now Given.Absent Given.Absent) }
+pub fn check_sheet(s: &[u8]) -> Result<(), Refusal>
+    ensures value { result ≡ check_of s.now None None }
+    ensures numbers { check_numbers result ≡ check_numbers (check_of s.now None None) }
 {
-    check(0, s, Given::Absent, Given::Absent)
+    check(0, s, None, None)
 }
 
 // A sheet with a file of `lent` registers, and no start word.
-pub fn check_on_file(s: &[u8], lent: usize) -> Check
-    ensures value { result ≡ check_of s.now (Given.Number lent) Given.Absent }
-    ensures numbers { check_numbers result ≡ check_numbers (check_of s.now (Given.Number lent) Given.Absent) }
+pub fn check_on_file(s: &[u8], lent: usize) -> Result<(), Refusal>
+    ensures value { result ≡ check_of s.now (Some lent) None }
+    ensures numbers { check_numbers result ≡ check_numbers (check_of s.now (Some lent) None) }
 {
-    check(0, s, Given::Number(lent), Given::Absent)
+    check(0, s, Some(lent), None)
 }
 
 // A sheet with a file of `lent` registers, started at execution `start`.
-pub fn check_start(s: &[u8], lent: usize, start: usize) -> Check
-    ensures value { result ≡ check_of s.now (Given.Number lent) (Given.Number start) }
-    ensures numbers { check_numbers result ≡ check_numbers (check_of s.now (Given.Number lent) (Given.Number start)) }
+pub fn check_start(s: &[u8], lent: usize, start: usize) -> Result<(), Refusal>
+    ensures value { result ≡ check_of s.now (Some lent) (Some start) }
+    ensures numbers { check_numbers result ≡ check_numbers (check_of s.now (Some lent) (Some start)) }
 {
-    check(0, s, Given::Number(lent), Given::Number(start))
+    check(0, s, Some(lent), Some(start))
 }
 
 // A sheet with the registers that it declares after it, four bytes each, as the trace reads them. Public for the trace.
-pub fn check_input(x: &[u8]) -> Check
+pub fn check_input(x: &[u8]) -> Result<(), Refusal>
     ensures { result ≡ input_of x.now }
 {
-    check(4, x, Given::Absent, Given::Absent)
+    check(4, x, None, None)
 }
 
 // ---- the header alone
 
-// A header refused: its numbers are 0.
-fn unread(reason: Reason, place: usize) -> Heading
-    ensures { result ≡ headed_by (Check.Bad reason place) 0 }
-{
-    Heading {
-        check: Check::Bad { reason, place },
-        version: 0,
-        words: 0,
-        registers: 0,
-    }
-}
-
 // The header in the first four bytes of `s`, for a caller that sizes its buffers by it: what follows it is not looked at.
-pub fn read_header(s: &[u8]) -> Heading
+pub fn read_header(s: &[u8]) -> Result<Heading, Refusal>
     ensures value { result ≡ heading_of s.now }
-    ensures numbers { check_numbers result.check ≡ check_numbers (first_of (heading_rows s.now)) }
+    ensures numbers { check_numbers (check_by result) ≡ check_numbers (first_of (heading_rows s.now)) }
 {
     let length = s.len();
-    if length < 4 {
-        return unread(Reason::Short, 0);
-    }
+    refuse_if(length < 4, Reason::Short, 0)?;
     let h = header(s);
-    let opening = check_opening(h);
-    if let Check::Bad { reason, place } = opening {
-        return unread(reason, place);
-    }
-    Heading {
-        check: Check::Good,
+    check_opening(h)?;
+    Ok(Heading {
         version: h >> 28,
         words: count(h) as u32,
         registers: registers(h),
-    }
+    })
 }

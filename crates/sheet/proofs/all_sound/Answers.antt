@@ -1,4 +1,4 @@
--- The loop's invariant: no row of any word holds exactly where no row of the words left, from the next on, holds. The measure is the words left.
+-- No row of any word holds exactly where no row of the words left, from the next on, holds.
 use mathlib.Core.Path.{◌≡◌, refl, sym, ◌∙◌}
 use mathlib.Core.Bool.{true}
 use Prim.Native.Nat.{◌-◌}
@@ -8,31 +8,21 @@ use Rattle.sheet.specs.Sheet.{word_rows}
 use Rattle.sheet.proofs.Table.{seen_word}
 use Rattle.sheet.proofs.all_sound.Goals as goal
 
-pub loop-next-init : goal.loop-next-init
-loop-next-init c = let a = c.args in
-    let e : a.count - 0 ≡ a.count = omega arith in
-    (omega arith, rw e refl)
-
 pub returns-then-not-sound : goal.returns-then-not-sound
 returns-then-not-sound c = let a = c.args in
     let l = c.loop-next in
-    sym (l.invariant.1
+    sym (l.invariant
     ∙ rows_hold (word_rows a.s.now a.n) true c.sound.result l.next a.count (omega arith)
     (seen_word a.s.now a.n l.next _ _ c.number_at.ensures c.sound.ensures)
     ∙ rw (c.if-not-sound.true) refl)
 
 pub loop-next-preserved : goal.loop-next-preserved
 loop-next-preserved c = let a = c.args in
-    let l = c.loop-next in (
-      omega arith,
-      l.invariant.1
-          ∙ rows_hold (word_rows a.s.now a.n) true c.sound.result l.next a.count (omega arith)
-          (seen_word a.s.now a.n l.next _ _ c.number_at.ensures c.sound.ensures)
-          ∙ rw (c.if-not-sound.false) refl,
-    )
+    let l = c.loop-next in
+    l.invariant
+    ∙ rows_hold (word_rows a.s.now a.n) true c.sound.result l.next a.count (omega arith)
+    (seen_word a.s.now a.n l.next _ _ c.number_at.ensures c.sound.ensures)
+    ∙ rw (c.if-not-sound.false) refl
 
 pub returns : goal.returns
-returns c = let a = c.args in
-    let l = c.loop-next in
-    let e : a.count - l.next ≡ 0 = omega arith in
-    sym (l.invariant.1 ∙ rw e refl)
+returns c = let e : c.args.count - c.loop-next.next ≡ 0 = omega arith in sym (c.loop-next.invariant ∙ rw e refl)

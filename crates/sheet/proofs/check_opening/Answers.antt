@@ -1,13 +1,11 @@
 -- Each return is a row of the table whose earlier rows do not hold.
-use mathlib.Core.Path.{sym, ◌∙◌}
-use borrow.Author.Tests.{eq-eqb, ne_eqb}
+use mathlib.Core.Path.{refl, sym, ◌∙◌}
+use Rattle.reasons.proofs.Rows.{passed_on}
 use Rattle.sheet.proofs.check_opening.Goals as goal
 
-pub returns-then-h-ne1 : goal.returns-then-h-ne1
-returns-then-h-ne1 c = rw (ne_eqb _ _ c.if-h-ne1.true)
-
-pub returns-then-bad_header : goal.returns-then-bad_header
-returns-then-bad_header c = rw (eq-eqb _ _ c.if-h-ne1.false, sym c.bad_header.ensures ∙ c.if-bad_header.true)
+pub returns-in_err-refuse_if : goal.returns-in_err-refuse_if
+returns-in_err-refuse_if c =
+    rw (passed_on _ _ c.from_residual.ensures.1, c.in_err-refuse_if.ensures.held.1, c.in_err-refuse_if.ensures.held.0) refl
 
 pub returns : goal.returns
-returns c = rw (eq-eqb _ _ c.if-h-ne1.false, sym c.bad_header.ensures ∙ c.if-bad_header.false)
+returns c = rw (c.refuse_if-2.ensures.value, c.in_ok-refuse_if.ensures.passed, c.bad_header.ensures) refl

@@ -1,4 +1,4 @@
--- Where no row holds the table answers Good.
+-- Where no row holds the table refuses nothing.
 use mathlib.Core.Path.{sym, ◌∙◌}
 use Rattle.reasons.specs.Reasons.{rows_by}
 use Rattle.reasons.proofs.Rows.{hold_good}

@@ -1,5 +1,4 @@
--- The loop looks for the first row that holds (`Scan`). The measure is the words left.
-use Prim.Native.Nat.{◌-◌}
+-- The loop looks for the first row that holds (`Scan`).
 use Rattle.reasons.specs.Reasons.{rows_by}
 use Rattle.reasons.proofs.Rows.{Scan}
 use Rattle.sheet.specs.Sheet.{word_rows}
@@ -7,6 +6,3 @@ use Rattle.sheet.proofs.first_fault.Given as goal
 
 abbrev pub invariant-loop-k : goal.invariant-loop-k
 invariant-loop-k l = Scan (word_rows l.s l.n) (rows_by (word_rows l.s l.n) 0 l.count) l.count l.k
-
-abbrev pub decreases-loop-k : goal.decreases-loop-k
-decreases-loop-k l = l.count - l.k

@@ -1,27 +1,29 @@
 -- Each return is one way in which reading a header ends.
 use mathlib.Core.Path.{ap₂, sym, ◌∙◌}
 use Prim.Native.Nat.{ℕ}
-use Rattle.reasons.specs.declared.Check.TheVariants.{Good}
+use borrow.Author.Tests.{ltb-true, ltb-false}
+use Rattle.std.proofs.Common.{Ok}
+use Rattle.reasons.proofs.Rows.{passed_on}
 use Rattle.sheet.specs.Sheet.{version_of}
 use Rattle.sheet.proofs.Headings.{heading_short, heading_bad, heading_good, heading_numbers_lem}
 use Rattle.sheet.proofs.read_header.Goals as goal
 
-pub returns-then-length-lt4 : goal.returns-then-length-lt4
-returns-then-length-lt4 c =
-    let p = heading_numbers_lem _ _ (c.unread.ensures ∙ heading_short _ c.if-length-lt4.true) in
+pub returns-in_err-refuse_if : goal.returns-in_err-refuse_if
+returns-in_err-refuse_if c =
+    let p = heading_numbers_lem c.args.s.now _
+    (rw (passed_on _ _ c.from_residual.ensures.1, c.in_err-refuse_if.ensures.held.1) (heading_short c.args.s.now (ltb-true _ _ c.in_err-refuse_if.ensures.held.0))) in
     record { value = p.0; numbers = p.1 }
 
-pub returns-in-Bad : goal.returns-in-Bad
-returns-in-Bad c =
-    let p = let o = c in
-    heading_numbers_lem _ _ (c.unread-in-Bad.ensures
-    ∙ heading_bad _ _ o.if-length-lt4.false o.header-h.ensures _ _ (sym o.check_opening-opening.ensures ∙ c.in-Bad.is)) in
+pub returns-in_err-check_opening : goal.returns-in_err-check_opening
+returns-in_err-check_opening c =
+    let p = heading_numbers_lem c.args.s.now _
+    (passed_on _ _ c.from_residual-in_err-check_opening.ensures.1
+    ∙ heading_bad c.args.s.now _ (ltb-false _ _ c.in_ok-refuse_if.ensures.passed) c.header-h.ensures _ (sym c.check_opening.ensures ∙ c.in_err-check_opening.was)) in
     record { value = p.0; numbers = p.1 }
 
 pub returns : goal.returns
 returns c =
-    let p = let o = c in
-    let h = o.header-h.result in
-    heading_numbers_lem _ _ (ap₂ (λ (m n : ℕ). record { check = Good; version = version_of h; words = m; registers = n }) c.count.ensures c.registers.ensures
-    ∙ heading_good _ h o.if-length-lt4.false o.header-h.ensures (sym o.check_opening-opening.ensures ∙ c.in_default.is)) in
+    let p = heading_numbers_lem c.args.s.now _
+    (ap₂ (λ (m n : ℕ). Ok (record { version = version_of c.header-h.result; words = m; registers = n })) c.count.ensures c.registers.ensures
+    ∙ heading_good c.args.s.now _ (ltb-false _ _ c.in_ok-refuse_if.ensures.passed) c.header-h.ensures (sym c.check_opening.ensures ∙ c.in_ok-check_opening.was)) in
     record { value = p.0; numbers = p.1 }
