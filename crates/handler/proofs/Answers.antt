@@ -5,11 +5,10 @@ use mathlib.Core.List.{List}
 use Prim.Native.Nat.{ℕ}
 use native.Mathlib.Omega.{arith}
 use lib.ListN.{length}
-use Rattle.reasons.specs.Reasons.{rows_by}
-use Rattle.reasons.specs.declared.Check.{Check}
+use Rattle.reasons.specs.Reasons.{Check, rows_by}
 use Rattle.reasons.proofs.Numbers.{Tells, Telling, telling_first, telling_on, telling_by}
 use Rattle.sheet.specs.Sheet.{words_of, names_in, sheet_rows}
-use Rattle.sheet.specs.declared.Given.TheVariants.{Absent}
+use Rattle.std.proofs.Common.{None as Nothing}
 use Rattle.sheet.proofs.Answers.{rows_tell}
 use Rattle.handler.specs.Form.{saves_status, saves_q, form_row, form_rows, form_of, handler_rows, handler_of}
 use Rattle.handler.specs.Overlap.{overlap_row, overlap_of}
@@ -24,7 +23,7 @@ form_tells h = telling_first (form_rows h) (rows_of_form h)
 
 pub handler_tells : (h : List ℕ) → Tells (handler_of h)
 unfolding handler_of
-handler_tells h = telling_first (handler_rows h) (telling_on (sheet_rows h Absent Absent) (form_rows h) (rows_tell h Absent Absent) (rows_of_form h))
+handler_tells h = telling_first (handler_rows h) (telling_on (sheet_rows h Nothing Nothing) (form_rows h) (rows_tell h Nothing Nothing) (rows_of_form h))
 
 pub overlap_tells : (main h : List ℕ) → Tells (overlap_of main h)
 unfolding overlap_of

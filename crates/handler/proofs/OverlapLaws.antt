@@ -7,8 +7,7 @@ use Prim.Native.Nat.{ℕ, zero, suc, ◌+◌, ◌-◌, ◌^◌, ◌≤◌, ◌<�
 use native.Mathlib.Omega.{arith}
 use lib.Bits.{bit_or, or_lt, or_zero_r, and_zero_l}
 use lib.Dec.{lit<}
-use Rattle.reasons.specs.Reasons.{none_hold, rows_by}
-use Rattle.reasons.specs.declared.Check.TheVariants.{Good}
+use Rattle.reasons.specs.Reasons.{good, none_hold, rows_by}
 use Rattle.reasons.proofs.Rows.{hold_good, good_hold}
 use Rattle.packing.specs.Packing.{differ}
 use Rattle.packing.specs.Registers.{common, names_of, names_all}
@@ -81,7 +80,7 @@ module _ (main h : List ℕ) where
   meet_is = meet_rows main theirs 0 (words_of main) (words-lt h 0 (words_of h))
 
   -- so where they do not meet nothing is refused, and the other way round
-  pub apart_good : common (names_in main) theirs ≡ false → Good ≡ overlap_of main h
+  pub apart_good : common (names_in main) theirs ≡ false → good ≡ overlap_of main h
   unfolding overlap_of
   apart_good e = sym (hold_good (rows_by (overlap_row main theirs) 0 (words_of main)) (flip _ (sym meet_is ∙ e)))
     where
@@ -89,6 +88,6 @@ module _ (main h : List ℕ) where
       flip true f = refl
       flip false f = sym f
 
-  pub good_apart : overlap_of main h ≡ Good → common (names_in main) theirs ≡ false
+  pub good_apart : overlap_of main h ≡ good → common (names_in main) theirs ≡ false
   unfolding overlap_of
   good_apart e = meet_is ∙ ap not (good_hold (rows_by (overlap_row main theirs) 0 (words_of main)) e)

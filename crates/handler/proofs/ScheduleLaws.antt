@@ -5,14 +5,12 @@ use mathlib.Core.Bool.{Bool, true, false, ◌||◌}
 use Prim.Native.Nat.{ℕ, ◌+◌}
 use native.Mathlib.Numerals.{add-one}
 use lib.ListN.{get_or}
-use Rattle.reasons.specs.Reasons.{◌gives◌at◌, first_of, or_else}
+use Rattle.reasons.specs.Reasons.{Check, good, refused, ◌gives◌at◌, first_of, or_else}
 use Rattle.reasons.specs.declared.Reason.{Reason}
-use Rattle.reasons.specs.declared.Check.{Check}
-use Rattle.reasons.specs.declared.Check.TheVariants.{Good, Bad}
 use Rattle.handler.specs.Schedule.{entry_rows, schedule_row}
 
 -- three rows of one reason and place are one row
-pub three_rows : (x y z : Bool) (r : Reason) (p : ℕ) → first_of ((x gives r at p) ∷ (y gives r at p) ∷ (z gives r at p) ∷ []) ≡ or_else (x || y || z) (Bad r p) Good
+pub three_rows : (x y z : Bool) (r : Reason) (p : ℕ) → first_of ((x gives r at p) ∷ (y gives r at p) ∷ (z gives r at p) ∷ []) ≡ or_else (x || y || z) (refused r p) good
 three_rows true y z r p = refl
 three_rows false true z r p = refl
 three_rows false false true r p = refl

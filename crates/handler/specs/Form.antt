@@ -1,15 +1,13 @@
 -- The handler's form (document 01, 'The handler's form'), as the table of reason 11.
-use Rattle.std.specs.Prelude.{List, [], ◌∷◌, ◌++◌, Bool, ◌||◌, ℕ, ◌-◌, eqb, ltb}
+use Rattle.std.specs.Prelude.{List, [], ◌∷◌, ◌++◌, Bool, ◌||◌, ℕ, ◌-◌, eqb, ltb, None}
 use Rattle.std.specs.Int.Bits.{bit_or}
 use Rattle.bits.specs.Bits.{pick}
-use Rattle.reasons.specs.Reasons.{Row, ◌gives◌at◌, first_of, rows_by}
+use Rattle.reasons.specs.Reasons.{Check, Row, ◌gives◌at◌, first_of, rows_by}
 use Rattle.reasons.specs.declared.Reason.TheVariants.{Form}
-use Rattle.reasons.specs.declared.Check.{Check}
 use Rattle.chip.specs.declared.Word.{Word}
 use Rattle.packing.specs.Packing.{differ}
 use Rattle.packing.specs.Registers.{only, common, sources_of, destination_of, names_of}
 use Rattle.sheet.specs.Sheet.{word_at, words_of, sheet_rows}
-use Rattle.sheet.specs.declared.Given.TheVariants.{Absent}
 
 -- s and q are the Y fields of words 0 and 1 as they stand, written or not, even where those are at fault
 abbrev pub saves_status : List ℕ → ℕ
@@ -73,7 +71,7 @@ form_of h = first_of (form_rows h)
 
 -- a sheet handed in as a handler: its own reasons, then 11
 abbrev pub handler_rows : List ℕ → List Row
-handler_rows h = sheet_rows h Absent Absent ++ form_rows h
+handler_rows h = sheet_rows h None None ++ form_rows h
 
 unfoldable pub handler_of : List ℕ → Check
 handler_of h = first_of (handler_rows h)

@@ -1,8 +1,7 @@
 -- A register named by both main list and handler, as the table of reason 12.
 use Rattle.std.specs.Prelude.{List, [], ◌∷◌, ℕ}
-use Rattle.reasons.specs.Reasons.{Row, ◌gives◌at◌, first_of, rows_by}
+use Rattle.reasons.specs.Reasons.{Check, Row, ◌gives◌at◌, first_of, rows_by}
 use Rattle.reasons.specs.declared.Reason.TheVariants.{Overlap}
-use Rattle.reasons.specs.declared.Check.{Check}
 use Rattle.packing.specs.Registers.{common, names_of}
 use Rattle.sheet.specs.Sheet.{words_of, word_at, names_in}
 

@@ -1,8 +1,7 @@
 -- A schedule of boundaries, as the table of reason 13.
 use Rattle.std.specs.Prelude.{List, [], ◌∷◌, ℕ, length, get_or, ltb, leb}
-use Rattle.reasons.specs.Reasons.{Row, ◌gives◌at◌, first_of, rows_by}
+use Rattle.reasons.specs.Reasons.{Check, Row, ◌gives◌at◌, first_of, rows_by}
 use Rattle.reasons.specs.declared.Reason.TheVariants.{Schedule}
-use Rattle.reasons.specs.declared.Check.{Check}
 
 -- entry j is b, and the one before it is `last`: at most 1,024 entries, each from 0 to the main list's n words, none less than its predecessor
 abbrev pub entry_rows : ℕ → ℕ → ℕ → ℕ → List Row

@@ -10,7 +10,7 @@ ghost use Rattle.handler.specs.Overlap.{overlap_row, overlap_of};
 ghost use Rattle.handler.specs.Schedule.{entry_rows, schedule_of};
 
 use chip::Word;
-use reasons::{Check, Reason};
+use reasons::{Reason, Refusal, refuse_if};
 use sheet::Which;
 
 // ---- sets of registers
@@ -28,10 +28,8 @@ fn names_in(s: &[u8], n: usize) -> u64
     ensures { result ≡ names_all (words_from s.now 0 n) }
 {
     let mut set: u64 = 0;
-    let mut k: usize = 0;
-    while k < n {
-        set = set | packing::names(sheet::word_at(s, s, Which::Main, k));
-        k += 1;
+    for k in 0..n {
+        set |= packing::names(sheet::word_at(s, s, Which::Main, k));
     }
     set
 }
@@ -119,41 +117,26 @@ fn fault(n: usize, s: u32, q: u32, saved: u64, k: usize, w: Word) -> bool
     body_fault(saved, w)
 }
 
-// The form refused at a word.
-fn misformed(place: usize) -> Check
-    ensures { result ≡ Check.Bad Reason.Form place }
-{
-    Check::Bad {
-        reason: Reason::Form,
-        place,
-    }
-}
-
 // The first of n words that is at fault.
-fn first_misformed(h: &[u8], n: usize, s: u32, q: u32, saved: u64) -> Check
+fn first_misformed(h: &[u8], n: usize, s: u32, q: u32, saved: u64) -> Result<(), Refusal>
     requires { (4 + 6 * n ≤ length h.now) × (saved ≡ saves s q) }
     ensures { result ≡ first_of (rows_by (form_row h.now n s q) 0 n) }
 {
-    let mut k: usize = 0;
-    while k < n {
-        if fault(n, s, q, saved, k, sheet::word_at(h, h, Which::Main, k)) {
-            return misformed(k);
-        }
-        k += 1;
+    for k in 0..n {
+        let w = sheet::word_at(h, h, Which::Main, k);
+        refuse_if(fault(n, s, q, saved, k, w), Reason::Form, k)?;
     }
-    Check::Good
+    Ok(())
 }
 
 // Reason 11; s and q are the Y fields of the first two words as they stand, written or not. Public for the crate above, which has checked the
 // sheet.
-pub fn form(h: &[u8]) -> Check
+pub fn form(h: &[u8]) -> Result<(), Refusal>
     requires { (4 ≤ length h.now) × (4 + 6 * words_of h.now ≤ length h.now) }
     ensures { result ≡ form_of h.now }
 {
     let n = sheet::words(h);
-    if n < 6 {
-        return misformed(0);
-    }
+    refuse_if(n < 6, Reason::Form, 0)?;
     let first = sheet::word_at(h, h, Which::Main, 0);
     let second = sheet::word_at(h, h, Which::Main, 1);
     let saved = packing::only(first.y) | packing::only(second.y);
@@ -161,43 +144,31 @@ pub fn form(h: &[u8]) -> Check
 }
 
 // A sheet handed in as a handler, on its own: its own reasons, then the form.
-pub fn check_handler(s: &[u8]) -> Check
+pub fn check_handler(s: &[u8]) -> Result<(), Refusal>
     ensures value { result ≡ handler_of s.now }
     ensures numbers { check_numbers result ≡ check_numbers (handler_of s.now) }
 {
-    let own = sheet::check_sheet(s);
-    if let Check::Bad { reason, place } = own {
-        return Check::Bad { reason, place };
-    }
+    sheet::check_sheet(s)?;
     form(s)
 }
 
 // ---- 12: registers named by both
 
 // The first of m main words that names a register of a set.
-fn first_sharing(main: &[u8], m: usize, theirs: u64) -> Check
+fn first_sharing(main: &[u8], m: usize, theirs: u64) -> Result<(), Refusal>
     requires { 4 + 6 * m ≤ length main.now }
     ensures { result ≡ first_of (rows_by (overlap_row main.now theirs) 0 m) }
 {
-    let mut k: usize = 0;
-    while k < m {
-        if meet(
-            packing::names(sheet::word_at(main, main, Which::Main, k)),
-            theirs,
-        ) {
-            return Check::Bad {
-                reason: Reason::Overlap,
-                place: k,
-            };
-        }
-        k += 1;
+    for k in 0..m {
+        let ours = packing::names(sheet::word_at(main, main, Which::Main, k));
+        refuse_if(meet(ours, theirs), Reason::Overlap, k)?;
     }
-    Check::Good
+    Ok(())
 }
 
 // Reason 12: the registers of the two sheets, each in one pass; only where they meet is the first main word looked for. Public for the crate
 // above, which has checked both.
-pub fn overlap<'a>(main: &'a [u8], h: &'a [u8]) -> Check
+pub fn overlap<'a>(main: &'a [u8], h: &'a [u8]) -> Result<(), Refusal>
     requires in_bounds { (4 ≤ length main.now) × (4 + 6 * words_of main.now ≤ length main.now) }
     requires in_bounds_2 { (4 ≤ length h.now) × (4 + 6 * words_of h.now ≤ length h.now) }
     ensures { result ≡ overlap_of main.now h.now }
@@ -207,7 +178,7 @@ pub fn overlap<'a>(main: &'a [u8], h: &'a [u8]) -> Check
     if meet(names_in(main, m), theirs) {
         return first_sharing(main, m, theirs);
     }
-    Check::Good
+    Ok(())
 }
 
 // ---- 13: the schedule
@@ -221,32 +192,22 @@ pub fn boundary(schedule: &[u16], j: usize) -> usize
 }
 
 // Entry j is b, and the one before it is `last`; n is the number of main executions.
-fn check_entry(n: usize, last: usize, b: usize, j: usize) -> Check
+fn check_entry(n: usize, last: usize, b: usize, j: usize) -> Result<(), Refusal>
     ensures { result ≡ first_of (entry_rows n last b j) }
 {
-    if (1024 <= j) | (n < b) | (b < last) {
-        return Check::Bad {
-            reason: Reason::Schedule,
-            place: j,
-        };
-    }
-    Check::Good
+    let bad = (1024 <= j) | (n < b) | (b < last);
+    refuse_if(bad, Reason::Schedule, j)
 }
 
 // Reason 13 for a main list of n executions, in one pass.
-pub fn check_schedule(schedule: &[u16], n: usize) -> Check
+pub fn check_schedule(schedule: &[u16], n: usize) -> Result<(), Refusal>
     ensures { result ≡ schedule_of schedule.now n }
 {
     let mut last: usize = 0;
-    let mut j: usize = 0;
-    while j < schedule.len() {
+    for j in 0..schedule.len() {
         let b = boundary(schedule, j);
-        let c = check_entry(n, last, b, j);
-        if let Check::Bad { reason, place } = c {
-            return Check::Bad { reason, place };
-        }
+        check_entry(n, last, b, j)?;
         last = b;
-        j += 1;
     }
-    Check::Good
+    Ok(())
 }

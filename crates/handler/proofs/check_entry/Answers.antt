@@ -5,10 +5,6 @@ use Rattle.reasons.specs.declared.Reason.TheVariants.{Schedule}
 use Rattle.handler.proofs.ScheduleLaws.{three_rows}
 use Rattle.handler.proofs.check_entry.Goals as goal
 
-pub returns-then-j-n : goal.returns-then-j-n
-returns-then-j-n c = let a = c.args in
-    sym (three_rows (leb 1024 a.j) (ltb a.n a.b) (ltb a.b a.last) Schedule a.j ∙ rw c.if-j-n.true refl)
-
 pub returns : goal.returns
 returns c = let a = c.args in
-    sym (three_rows (leb 1024 a.j) (ltb a.n a.b) (ltb a.b a.last) Schedule a.j ∙ rw c.if-j-n.false refl)
+    c.refuse_if.ensures.value ∙ sym (three_rows (leb 1024 a.j) (ltb a.n a.b) (ltb a.b a.last) Schedule a.j)

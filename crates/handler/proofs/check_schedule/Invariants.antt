@@ -1,7 +1,6 @@
--- The loop looks for the first row that holds (`Scan`), and `last` is what stands before entry j. The measure is the entries left.
+-- The loop looks for the first row that holds (`Scan`), and `last` is what stands before entry j.
 use mathlib.Core.Path.{◌≡◌}
 use mathlib.Core.List.{◌∷◌}
-use Prim.Native.Nat.{◌-◌}
 use lib.ListN.{length, get_or}
 use Rattle.reasons.specs.Reasons.{rows_by}
 use Rattle.reasons.proofs.Rows.{Scan}
@@ -10,6 +9,3 @@ use Rattle.handler.proofs.check_schedule.Given as goal
 
 abbrev pub invariant-loop-j : goal.invariant-loop-j
 invariant-loop-j l = (l.last ≡ get_or (0 ∷ l.schedule) l.j 0) × Scan (schedule_row l.schedule l.n) (rows_by (schedule_row l.schedule l.n) 0 (length l.schedule)) (length l.schedule) l.j
-
-abbrev pub decreases-loop-j : goal.decreases-loop-j
-decreases-loop-j l = length l.schedule - l.j

@@ -1,5 +1,4 @@
--- The loop looks for the first row that holds (`Scan`). The measure is the words left.
-use Prim.Native.Nat.{◌-◌}
+-- The loop looks for the first row that holds (`Scan`).
 use Rattle.reasons.specs.Reasons.{rows_by}
 use Rattle.reasons.proofs.Rows.{Scan}
 use Rattle.handler.specs.Overlap.{overlap_row}
@@ -7,6 +6,3 @@ use Rattle.handler.proofs.first_sharing.Given as goal
 
 abbrev pub invariant-loop-k : goal.invariant-loop-k
 invariant-loop-k l = Scan (overlap_row l.main l.theirs) (rows_by (overlap_row l.main l.theirs) 0 l.m) l.m l.k
-
-abbrev pub decreases-loop-k : goal.decreases-loop-k
-decreases-loop-k l = l.m - l.k
