@@ -2,8 +2,8 @@
 // nothing above uses a mask on data. They are public for the crates above; a `requires` keeps n, a count of selected bits, in range.
 #![tactic(auto)]
 
-ghost use Rattle.std.specs.Prelude.{◌≡◌, ◌+◌, ◌-◌, ◌*◌, ◌/◌, ◌%◌, ◌^◌, ◌<◌, ◌≤◌, count_ones};
-ghost use Rattle.bits.specs.Bits.{bytes4, selected, bit_of, sign_of, zero_of, merged, not_of, copies, carry_of, overflow_of, up_by, rotated_up, field_mask, masked_of, put_bit, priority_of, parity_of};
+ghost use Rattle.std.specs.Prelude.{◌≡◌, ◌+◌, ◌-◌, ◌*◌, ◌/◌, ◌%◌, ◌^◌, ◌<◌, ◌≤◌, length, count_ones};
+ghost use Rattle.bits.specs.Bits.{bytes4, bytes4_at, selected, bit_of, sign_of, zero_of, merged, not_of, copies, carry_of, overflow_of, up_by, rotated_up, field_mask, masked_of, put_bit, priority_of, parity_of};
 
 // How many bits a byte code selects (tables 3 and 5): eight less than 32 for each byte missing, so that no test is needed for code 0.
 pub fn selected_bits(code: u32) -> u32
@@ -73,7 +73,7 @@ pub fn is_zero(x: u32, n: u32) -> u32
     requires { (1 ≤ n) × (n ≤ 32) }
     ensures { result ≡ zero_of n x }
 {
-    if top(x, n) == 0 { 1 } else { 0 }
+    (top(x, n) == 0) as u32
 }
 
 // 32 copies of a flag.
@@ -88,7 +88,7 @@ pub fn spread(f: u32) -> u32
 pub fn add(a: u32, b: u32, c: u32) -> u32
     ensures { result ≡ (a + b + c) % 2 ^ 32 }
 {
-    std::num::wrapping_add_u32(std::num::wrapping_add_u32(a, b), c)
+    a.wrapping_add(b).wrapping_add(c)
 }
 
 // The wrapping difference: a - b where c is 1, and one less where c is 0.
@@ -96,7 +96,7 @@ pub fn subtract(a: u32, b: u32, c: u32) -> u32
     requires { c < 2 }
     ensures { result ≡ (a + not_of b + c) % 2 ^ 32 }
 {
-    std::num::wrapping_sub_u32(std::num::wrapping_sub_u32(a, b), 1 - c)
+    a.wrapping_sub(b).wrapping_sub(1 - c)
 }
 
 // The sum with its carry out of the data word, from which carry and overflow of any width can be read.
@@ -140,14 +140,12 @@ pub fn up(k: u32, x: u32) -> u32
 }
 
 // A word rotated up by k.
+#[tactic(auto, using(crate::proofs::Laws::rotate_law))]
 pub fn rotate(k: u32, x: u32) -> u32
     requires { k < 32 }
     ensures { result ≡ rotated_up k x }
 {
-    if k == 0 {
-        return x;
-    }
-    (x << k) | (x >> (32 - k))
+    x.rotate_left(k)
 }
 
 // Ones in the w bits from bit p up.
@@ -188,14 +186,14 @@ pub fn priority(x: u32, n: u32) -> u32
     if s == 0 {
         return 0;
     }
-    u32::leading_zeros(s) - (32 - n)
+    s.leading_zeros() - (32 - n)
 }
 
 // The bit that makes the count of ones in it and the low byte of x even.
 fn byte_parity(x: u32) -> u32
     ensures { (result ≡ count_ones (x % 256) % 2) × (result < 2) }
 {
-    u32::count_ones(x % 256) % 2
+    (x % 256).count_ones() % 2
 }
 
 // Even parity, highest byte first, by doubling: a sum of four products the compiler works out two at a time, with masks that it stores.
@@ -206,23 +204,17 @@ pub fn parity(x: u32) -> u32
     (upper * 2 + byte_parity(x >> 8)) * 2 + byte_parity(x)
 }
 
-// Four bytes as one number, the first lowest: one load on a little-endian machine.
-fn low_first(b0: u8, b1: u8, b2: u8, b3: u8) -> u32
-    ensures { result ≡ b0 + b1 * 2 ^ 8 + b2 * 2 ^ 16 + b3 * 2 ^ 24 }
-{
-    b0 as u32 + b1 as u32 * 0x100 + b2 as u32 * 0x1_0000 + b3 as u32 * 0x100_0000
-}
-
-// The four bytes of a number the other way round: one instruction.
-fn turned(v: u32) -> u32
-    ensures { result ≡ bytes4 (v % 2 ^ 8) (v / 2 ^ 8 % 2 ^ 8) (v / 2 ^ 16 % 2 ^ 8) (v / 2 ^ 24) }
-{
-    v % 256 * 0x100_0000 + v / 0x100 % 256 * 0x1_0000 + v / 0x1_0000 % 256 * 0x100 + v / 0x100_0000
-}
-
-// Four bytes as one number, the first highest, as sheets and registers are written: one load and one turn.
+// Four bytes as one number, the first highest, as sheets and registers are written: one load and one turn (docs/SPEED.md).
 pub fn four_bytes(b0: u8, b1: u8, b2: u8, b3: u8) -> u32
     ensures { result ≡ bytes4 b0 b1 b2 b3 }
 {
-    turned(low_first(b0, b1, b2, b3))
+    u32::from_be_bytes([b0, b1, b2, b3])
+}
+
+// The four bytes at a place, as one number.
+pub fn four_bytes_at(s: &[u8], at: usize) -> u32
+    requires { at + 4 ≤ length s.now }
+    ensures { result ≡ bytes4_at s.now at }
+{
+    four_bytes(s[at], s[at + 1], s[at + 2], s[at + 3])
 }
