@@ -103,11 +103,11 @@ rotate_law (suc j) x h hx =
     rw (m, n) (ap (λ (y : ℕ). bit_or y (x / 2 ^ (32 - k))) (shl_law k x (omega arith))
     ∙ or_shifted (x % 2 ^ (32 - k)) k (x / 2 ^ (32 - k)) (shr_lt k (32 - k) (subst (λ (m : ℕ). x < 2 ^ m) (sym e) hx)))
 
--- the zeros above n bits are leading ones of 32
-pub lz_low : (n x : ℕ) → n ≤ 32 → x < 2 ^ n → count_leading_zeros 32 x ≡ count_leading_zeros n x + (32 - n)
-lz_low n x h hx =
-    let l = leading_length n x hx in
-    sym (leading_unique 32 x (count_leading_zeros n x + (32 - n)) l.0 (omega arith) l.2 l.3)
+-- the leading zeros of a word cut to n bits, as 32 bits and as n
+pub leading_zeros : (n x : ℕ) → n ≤ 32 → count_leading_zeros 32 (x % 2 ^ n) ≡ count_leading_zeros n (x % 2 ^ n) + (32 - n)
+leading_zeros n x h =
+    let l = leading_length n (x % 2 ^ n) (mod-lt x (pow_pos n)) in
+    sym (leading_unique 32 (x % 2 ^ n) (count_leading_zeros n (x % 2 ^ n) + (32 - n)) l.0 (omega arith) l.2 l.3)
 
 -- a bit or'ed in
 pub or-one : (y : ℕ) → bit_or y 1 ≡ y / 2 * 2 + 1
@@ -174,3 +174,10 @@ choose-zero f a b e = ap (λ (k : ℕ). choose k a b) e
 pub choose_one {ℓ} : {A : Type ℓ} (f : ℕ) (a b : A) → (f ≡ 0 → ⊥) → choose f a b ≡ b
 choose_one zero a b h = absurd (h refl)
 choose_one (suc k) a b h = refl
+
+-- what the code's single bits, masks and bits at the top are
+pub ruleset one_bit = (and-bit, put_one, put-zero, one_shl)
+
+pub ruleset masks = (and_mask)
+
+pub ruleset top_bits = (top-sign, top-zero)

@@ -14,6 +14,7 @@ pub fn selected_bits(code: u32) -> u32
 }
 
 // The low n bits set, 2 to the n less 1: all ones, shifted down by what n lacks of 32, so that 32 is no case of its own.
+#[tactic(auto, using(crate::proofs::Laws::ones_shr))]
 fn mask(n: u32) -> u32
     requires { (1 ≤ n) × (n ≤ 32) }
     ensures { result ≡ 2 ^ n - 1 }
@@ -22,6 +23,7 @@ fn mask(n: u32) -> u32
 }
 
 // The low n bits of x.
+#[tactic(auto, using(crate::proofs::Laws::masks))]
 pub fn cut(x: u32, n: u32) -> u32
     requires { (1 ≤ n) × (n ≤ 32) }
     ensures { result ≡ x % 2 ^ n }
@@ -30,6 +32,7 @@ pub fn cut(x: u32, n: u32) -> u32
 }
 
 // Selected bits of s, unselected bits of u.
+#[tactic(auto, using(crate::proofs::Laws::merge_law))]
 pub fn merge(s: u32, u: u32, n: u32) -> u32
     requires { (1 ≤ n) × (n ≤ 32) }
     ensures { result ≡ merged n s u }
@@ -46,6 +49,7 @@ pub fn bit(i: u32, x: u32) -> u32
 }
 
 // The selected bits moved to the top of the word, where one shift or test serves every width.
+#[tactic(auto, using(crate::proofs::Laws::shl_law))]
 fn top(x: u32, n: u32) -> u32
     requires { (1 ≤ n) × (n ≤ 32) }
     ensures { result ≡ x % 2 ^ n * 2 ^ (32 - n) }
@@ -54,6 +58,7 @@ fn top(x: u32, n: u32) -> u32
 }
 
 // The top selected bit.
+#[tactic(auto, using(crate::proofs::Laws::top_bits))]
 pub fn sign(x: u32, n: u32) -> u32
     requires { (1 ≤ n) × (n ≤ 32) }
     ensures { result ≡ sign_of n x }
@@ -62,6 +67,7 @@ pub fn sign(x: u32, n: u32) -> u32
 }
 
 // The top selected bit, in its place.
+#[tactic(auto, using(crate::proofs::Laws::one_bit))]
 pub fn sign_bit(x: u32, n: u32) -> u32
     requires { (1 ≤ n) × (n ≤ 32) }
     ensures { result ≡ sign_of n x * 2 ^ (n - 1) }
@@ -69,6 +75,7 @@ pub fn sign_bit(x: u32, n: u32) -> u32
     x & (1 << (n - 1))
 }
 
+#[tactic(auto, using(crate::proofs::Laws::top_bits), unfolding(crate::specs::Bits::zero_of))]
 pub fn is_zero(x: u32, n: u32) -> u32
     requires { (1 ≤ n) × (n ≤ 32) }
     ensures { result ≡ zero_of n x }
@@ -114,6 +121,7 @@ pub fn low(s: u64) -> u32
 }
 
 // The carry out of the top selected bit of a + b + c, from that sum s: it differs from its operands where a carry came in.
+#[tactic(auto, using(crate::proofs::Adder::reads))]
 pub fn carry(a: u32, b: u32, c: u32, s: u64, n: u32) -> u32
     requires { (1 ≤ n) × (n ≤ 32) × (c < 2) × (s ≡ a + b + c) }
     ensures { result ≡ carry_of n a b c }
@@ -123,6 +131,7 @@ pub fn carry(a: u32, b: u32, c: u32, s: u64, n: u32) -> u32
 }
 
 // Its overflow: the carry into the top selected bit is not the carry out of it.
+#[tactic(auto, using(crate::proofs::Adder::reads))]
 pub fn overflow(a: u32, b: u32, c: u32, s: u64, n: u32) -> u32
     requires { (1 ≤ n) × (n ≤ 32) × (c < 2) × (s ≡ a + b + c) }
     ensures { result ≡ overflow_of n a b c }
@@ -149,6 +158,7 @@ pub fn rotate(k: u32, x: u32) -> u32
 }
 
 // Ones in the w bits from bit p up.
+#[tactic(auto, unfolding(crate::specs::Bits::field_mask))]
 pub fn field_mask(p: u32, w: u32) -> u32
     requires { (p < 32) × (1 ≤ w) × (w ≤ 32) }
     ensures { result ≡ field_mask p w }
@@ -163,6 +173,7 @@ pub fn masked(m: u32, s: u32, u: u32) -> u32
     (s & m) | (u & !m)
 }
 
+#[tactic(auto, using(crate::proofs::Laws::one_bit))]
 pub fn set_bit(i: u32, x: u32) -> u32
     requires { i < 32 }
     ensures { result ≡ put_bit i 1 x }
@@ -170,6 +181,7 @@ pub fn set_bit(i: u32, x: u32) -> u32
     x | (1 << i)
 }
 
+#[tactic(auto, using(crate::proofs::Laws::one_bit))]
 pub fn clear_bit(i: u32, x: u32) -> u32
     requires { i < 32 }
     ensures { result ≡ put_bit i 0 x }
@@ -178,6 +190,7 @@ pub fn clear_bit(i: u32, x: u32) -> u32
 }
 
 // The priority code: leading zeros of the selected bytes.
+#[tactic(auto, using(crate::proofs::Laws::leading_zeros), unfolding(crate::specs::Bits::priority_of))]
 pub fn priority(x: u32, n: u32) -> u32
     requires { (1 ≤ n) × (n ≤ 32) }
     ensures { result ≡ priority_of n x }
@@ -197,6 +210,7 @@ fn byte_parity(x: u32) -> u32
 }
 
 // Even parity, highest byte first, by doubling: a sum of four products the compiler works out two at a time, with masks that it stores.
+#[tactic(auto, unfolding(crate::specs::Bits::parity_of))]
 pub fn parity(x: u32) -> u32
     ensures { result ≡ parity_of x }
 {
