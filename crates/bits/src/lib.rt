@@ -3,7 +3,7 @@
 #![tactic(auto)]
 
 ghost use Rattle.std.specs.Prelude.{◌≡◌, ◌+◌, ◌-◌, ◌*◌, ◌/◌, ◌%◌, ◌^◌, ◌<◌, ◌≤◌, length, count_ones};
-ghost use Rattle.bits.specs.Bits.{bytes4, bytes4_at, selected, bit_of, sign_of, zero_of, merged, not_of, copies, carry_of, overflow_of, up_by, rotated_up, field_mask, masked_of, put_bit, priority_of, parity_of};
+ghost use Rattle.bits.specs.Bits.{bytes4, bytes4_at, selected, bit_of, sign_of, zero_of, merged, not_of, copies, choose, carry_of, overflow_of, up_by, rotated_up, field_mask, masked_of, put_bit, priority_of, parity_of};
 
 // How many bits a byte code selects (tables 3 and 5): eight less than 32 for each byte missing, so that no test is needed for code 0.
 pub fn selected_bits(code: u32) -> u32
@@ -81,6 +81,13 @@ pub fn is_zero(x: u32, n: u32) -> u32
     ensures { result ≡ zero_of n x }
 {
     (top(x, n) == 0) as u32
+}
+
+// The first at 0, the second at any other number.
+pub fn choose(f: u32, a: u32, b: u32) -> u32
+    ensures { result ≡ choose f a b }
+{
+    if f == 0 { a } else { b }
 }
 
 // 32 copies of a flag.
