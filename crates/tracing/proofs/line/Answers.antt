@@ -14,6 +14,6 @@ returns c = let w₅ = c in
     let y = q in
     let i = y in
     let a = i.args in
-    line_is a.index a.shown s.status.ensures p.pins.ensures i.four-i.ensures y.hex8-y.ensures q.hex8-q.ensures
-    s.hex8-s.ensures p.binary5-p.ensures w₁.put.ensures.put w₂.put-2.ensures.put w₃.put-3.ensures.put w₄.put-4.ensures.put
+    line_is a.index a.shown s.status.ensures p.pins.ensures i.hex-i.ensures y.hex-y.ensures q.hex-q.ensures
+    s.hex-s.ensures p.binary-p.ensures w₁.put.ensures.put w₂.put-2.ensures.put w₃.put-3.ensures.put w₄.put-4.ensures.put
     w₅.put-5.ensures.put
