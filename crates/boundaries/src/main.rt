@@ -40,8 +40,8 @@ fn start(status: u32) -> Machine {
 
 // A name of two characters, reason and words run.
 fn print_head(name: [u8; 2], reason: u32, place: usize) {
-    let number = text::hex2(reason);
-    let words = text::hex4((place % 0x1_0000) as u32);
+    let number = text::hex::<2>(reason as u64);
+    let words = text::hex::<4>(place as u64);
     io::write_all(1, &name);
     io::write_all(1, b" ");
     io::write_all(1, &number);
@@ -92,7 +92,7 @@ fn sweep<'a>(main: &'a [u8], handler: &'a [u8], status: u32, loaded: u32) {
     while b < BOUNDARIES {
         every[b] = b as u16;
         interrupted(
-            text::hex2(b as u32),
+            text::hex::<2>(b as u64),
             main,
             handler,
             &every[b..b + 1],

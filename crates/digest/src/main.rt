@@ -58,17 +58,13 @@ fn digest(opcode: u32) -> Sums {
 
 // A sum's sixteen digits, after a space.
 fn print_sum(sum: u64) {
-    let upper = text::hex8(draw::high(sum));
-    let lower = text::hex8(draw::low(sum));
     io::write_all(1, b" ");
-    io::write_all(1, &upper);
-    io::write_all(1, &lower);
+    io::write_all(1, &text::hex::<16>(sum));
 }
 
 fn report(opcode: u32) {
     let sums = digest(opcode);
-    let number = text::hex2(opcode);
-    io::write_all(1, &number);
+    io::write_all(1, &text::hex::<2>(opcode as u64));
     print_sum(sums.single);
     print_sum(sums.run);
     io::write_all(1, b"\n");

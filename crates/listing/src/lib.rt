@@ -28,12 +28,12 @@ const FIRST: usize = 23;
 fn numbers(w: Word) -> [u8; NUMBERS]
     ensures { result ≡ numbers_of w }
 {
-    let code = text::decimal1(w.code);
-    let position = text::decimal2(w.position);
-    let width = text::decimal2(w.width);
-    let a = text::decimal2(w.a);
-    let b = text::decimal2(w.b);
-    let y = text::decimal2(w.y);
+    let code = text::decimal::<1>(w.code as u64);
+    let position = text::decimal::<2>(w.position as u64);
+    let width = text::decimal::<2>(w.width as u64);
+    let a = text::decimal::<2>(w.a as u64);
+    let b = text::decimal::<2>(w.b as u64);
+    let y = text::decimal::<2>(w.y as u64);
     let mut line = *b"code=0 position=00 width=00 A=00 B=00 Y=00";
     line[5] = code[0];
     line[16] = position[0];
@@ -53,8 +53,8 @@ fn numbers(w: Word) -> [u8; NUMBERS]
 fn first_line(version: u32, registers: u32) -> [u8; FIRST]
     ensures { result ≡ ended (first_line version registers) }
 {
-    let v = text::decimal1(version);
-    let n = text::decimal2(registers);
+    let v = text::decimal::<1>(version as u64);
+    let n = text::decimal::<2>(registers as u64);
     let mut line = *b"version=0 registers=00\n";
     line[8] = v[0];
     line[20] = n[0];

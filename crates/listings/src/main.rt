@@ -110,7 +110,7 @@ fn same(sheet: &[u8], bytes: &[u8], n: usize) -> bool
 
 // A blank, and a number in eight hex digits.
 fn print_number(n: u32) {
-    let digits = text::hex8(n);
+    let digits = text::hex::<8>(n as u64);
     io::write_all(1, b" ");
     io::write_all(1, &digits);
 }
@@ -121,8 +121,8 @@ fn print_answer(letter: u8, answer: Output, buffer: &[u8])
 {
     let check = answer.check;
     let outcome = reasons::numbered_check(check);
-    let reason = text::decimal2(outcome.reason);
-    let place = text::hex4((outcome.place % 0x1_0000) as u32);
+    let reason = text::decimal::<2>(outcome.reason as u64);
+    let place = text::hex::<4>(outcome.place as u64);
     let first = [letter; 1];
     io::write_all(1, &first);
     io::write_all(1, b" ");

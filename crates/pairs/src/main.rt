@@ -228,7 +228,7 @@ fn multiplied(case: Case, left: Left) -> bool {
     if machine.q != with_low(before.q, value) {
         return false;
     }
-    lines::same(&left.file, &file)
+    left.file == file
 }
 
 // Whether quotient and remainder are in registers 2 and 1, and all other registers are as they were.
@@ -236,7 +236,7 @@ fn divided(list: List, case: Case, left: Left) -> bool {
     let mut file = registers(list, case);
     file[1] = with_low(file[1], remainder(case));
     file[2] = with_low(file[2], quotient(case));
-    lines::same(&left.file, &file)
+    left.file == file
 }
 
 fn as_arithmetic_says(list: List, case: Case, left: Left) -> bool {
@@ -356,9 +356,8 @@ fn print_number(n: u32, after: &[u8]) {
 
 // The last two digits of a word.
 fn print_byte(before: &[u8], x: u32) {
-    let digits = text::hex2(x);
     io::write_all(1, before);
-    io::write_all(1, &digits);
+    io::write_all(1, &text::hex::<2>(x as u64));
 }
 
 // A list's name and the status before it.
@@ -366,14 +365,6 @@ fn print_head(name: &[u8], status: u32) {
     io::write_all(1, name);
     io::write_all(1, b", status ");
     print_word(status, b':');
-}
-
-// A sum's sixteen digits.
-fn print_sum(sum: u64) {
-    let upper = text::hex8((sum / 0x1_0000_0000) as u32);
-    let lower = text::hex8((sum % 0x1_0000_0000) as u32);
-    io::write_all(1, &upper);
-    io::write_all(1, &lower);
 }
 
 fn print_tally(tally: Tally) {
@@ -388,7 +379,7 @@ fn print_tally(tally: Tally) {
         );
     }
     io::write_all(1, b"; sum ");
-    print_sum(tally.sum);
+    io::write_all(1, &text::hex::<16>(tally.sum));
     io::write_all(1, b"\n");
 }
 

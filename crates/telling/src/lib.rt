@@ -3,7 +3,6 @@
 #![tactic(auto)]
 
 ghost use Rattle.std.specs.Prelude.{◌≡◌, ◌+◌, ◌≤◌, ◌<◌, ◌%◌, length};
-ghost use Rattle.text.specs.Text.{decimal_of};
 ghost use Rattle.text.specs.Ascii.{ascii};
 ghost use Rattle.text.specs.Fill.{Added, Written};
 ghost use Rattle.telling.specs.Telling.{name_of, expected_of, placed, digits_in, plain_of, place_by, numbers_of, told_of, ShownBy};
@@ -19,8 +18,8 @@ const NUMBERS: usize = 8;
 fn numbers(reason: Reason, place: usize) -> [u8; NUMBERS]
     ensures { result ≡ numbers_of reason place }
 {
-    let n = text::decimal2(reasons::number(reason));
-    let p = text::hex4((place % 65536) as u32);
+    let n = text::decimal::<2>(reasons::number(reason) as u64);
+    let p = text::hex::<4>((place % 65536) as u64);
     [n[0], n[1], b' ', p[0], p[1], p[2], p[3], b' ']
 }
 
@@ -77,19 +76,7 @@ fn is_placed(reason: Reason) -> bool
     }
 }
 
-// The low five decimal digits of a number, and how many of them it has without zeros in front.
-fn decimal5(n: u32) -> [u8; 5]
-    ensures { result ≡ decimal_of 5 n }
-{
-    [
-        text::digit(n / 10000 % 10),
-        text::digit(n / 1000 % 10),
-        text::digit(n / 100 % 10),
-        text::digit(n / 10 % 10),
-        text::digit(n / 1 % 10),
-    ]
-}
-
+// How many digits a number has, of five, without zeros in front.
 fn digits_in(n: u32) -> usize
     ensures { (result ≡ digits_in n) × (result ≤ 5) }
 {
@@ -114,7 +101,7 @@ fn put_plain(n: usize, text: &mut [u8], at: usize) -> usize
     ensures { Added (plain_of n) at text.old result text.new }
 {
     let low = (n % 100000) as u32;
-    let five = decimal5(low);
+    let five = text::decimal::<5>(low as u64);
     let zeros = 5 - digits_in(low);
     text::put(&five[zeros..5], text, at)
 }

@@ -1,7 +1,7 @@
 -- The text of the lines, one after another in a lent text.
 use mathlib.Core.Path.{◌≡◌, refl, ap, sym, subst, ◌∙◌}
 use mathlib.Core.List.{List, [], ◌∷◌, ◌++◌, append_assoc, append-nil}
-use Prim.Native.Nat.{ℕ, ◌+◌, ◌*◌, ◌/◌, ◌%◌, ◌≤◌, ◌<◌}
+use Prim.Native.Nat.{ℕ, ◌+◌, ◌*◌, ◌≤◌, ◌<◌}
 use native.Mathlib.Omega.{arith}
 use lib.ListN.{length, get_or, take, drop, length-append, drop_of_length-le}
 use Rattle.machine.specs.declared.Shown.{Shown}
@@ -31,15 +31,6 @@ use Rattle.tracing.specs.Lines.{line_of, line_length, lines_of, last_of, last_le
 use Rattle.tracing.specs.Fill.{Traced, Filled}
 
 -- ---- one line
--- the four digits of a number's low sixteen bits are its low four digits
-pub four-digits : (n : ℕ) → hex_of 4 (n % 65536) ≡ hex_of 4 n
-four-digits n =
-    let e₃ : n % 65536 / 4096 % 16 ≡ n / 4096 % 16 = omega arith in
-    let e₂ : n % 65536 / 256 % 16 ≡ n / 256 % 16 = omega arith in
-    let e₁ : n % 65536 / 16 % 16 ≡ n / 16 % 16 = omega arith in
-    let e₀ : n % 65536 / 1 % 16 ≡ n / 1 % 16 = omega arith in
-    rw (e₃, e₂, e₁, e₀) refl
-
 pub last_is : (n p : List ℕ) (reason : Reason) (k place : ℕ) → k ≡ number_of reason → n ≡ decimal_of 2 k → p ≡ hex_of 4 place
     → get_or n 0 0 ∷ get_or n 1 0 ∷ 32 ∷ get_or p 0 0 ∷ get_or p 1 0 ∷ get_or p 2 0 ∷ get_or p 3 0 ∷ 10 ∷ [] ≡ last_of reason place
 unfolding last_of

@@ -5,7 +5,6 @@
 ghost use Rattle.std.specs.Prelude.{◌≡◌, ◌+◌, ◌*◌, ◌≤◌, ◌<◌, length};
 ghost use Rattle.machine.specs.Status.{Good};
 ghost use Rattle.chip.specs.Lists.{state};
-ghost use Rattle.text.specs.Text.{hex_of};
 ghost use Rattle.sheet.specs.Sheet.{words_of, declared_of, word_at, input_of, Ready};
 ghost use Rattle.tracing.specs.Input.{size_of, register_at, registers_from};
 ghost use Rattle.text.specs.Fill.{Added, Written};
@@ -26,25 +25,18 @@ pub const MOST: usize = 4095 * LINE + LAST;
 
 // ---- text
 
-// The low four hex digits of a number.
-fn four(n: usize) -> [u8; 4]
-    ensures { result ≡ hex_of 4 n }
-{
-    text::hex4((n % 65536) as u32)
-}
-
 // The line of an execution: index, Y, Q, status, pins.
 fn line(index: usize, shown: Shown) -> [u8; LINE]
     requires { Good shown.core.status }
     ensures { result ≡ line_of index shown }
 {
-    let i = four(index);
-    let y = text::hex8(shown.y);
-    let q = text::hex8(shown.core.q);
-    let s = text::hex8(shown.status());
+    let i = text::hex::<4>(index as u64);
+    let y = text::hex::<8>(shown.y as u64);
+    let q = text::hex::<8>(shown.core.q as u64);
+    let s = text::hex::<8>(shown.status() as u64);
     let core = shown.core;
     let status = core.status;
-    let p = text::binary5(status.pins());
+    let p = text::binary::<5>(status.pins() as u64);
     let mut line = *b"0000 00000000 00000000 00000000 00000\n";
     text::put(&i, &mut line, 0);
     text::put(&y, &mut line, 5);
@@ -58,8 +50,8 @@ fn line(index: usize, shown: Shown) -> [u8; LINE]
 fn last_line(reason: Reason, place: usize) -> [u8; LAST]
     ensures { result ≡ last_of reason place }
 {
-    let n = text::decimal2(reasons::number(reason));
-    let p = four(place);
+    let n = text::decimal::<2>(reasons::number(reason) as u64);
+    let p = text::hex::<4>(place as u64);
     [n[0], n[1], b' ', p[0], p[1], p[2], p[3], b'\n']
 }
 

@@ -4,5 +4,5 @@ use Rattle.telling.proofs.numbers.Goals as goal
 
 pub returns : goal.returns
 returns c = let a = c.args in
-    numbers_are c.decimal2-n.result c.hex4-p.result a.reason c.number.result a.place c.number.ensures
-    c.decimal2-n.ensures c.hex4-p.ensures
+    numbers_are c.decimal-n.result c.hex-p.result a.reason c.number.result a.place c.number.ensures
+    c.decimal-n.ensures c.hex-p.ensures
