@@ -11,7 +11,7 @@ use Rattle.grammar.specs.declared.Switches.{Switches}
 use Rattle.grammar.specs.declared.Head.{Head}
 use Rattle.std.specs.Prelude.{Option, Some, None, option_and_then, IfSome}
 use Rattle.std.specs.Bool.{then_some}
-use Rattle.grammar.specs.Grammar.{parts_of, labelled, opcode_of, taking, offered, head_of, line_of}
+use Rattle.grammar.specs.Grammar.{parts_of, labelled, opcode_of, taking, offered, head_by, head_of, line_of}
 use Rattle.grammar.specs.Scan.{stop_of, part_at, taken_by, taken_at, then, three_at, switch_by, switch_at, switches_at, no_more}
 use Rattle.grammar.proofs.Passing.{stop_within}
 use Rattle.grammar.proofs.Names.{labelled-none}
@@ -62,10 +62,6 @@ module _ {A : Type 0} where
       ∙ three-then (taken_at (labelled first) l i) _ _
 
 -- ---- the first line
--- a head of its numbers
-abbrev head_by : ℕ → ℕ → Head
-head_by version registers = record { version = version; registers = registers }
-
 abbrev pub head_at : List ℕ → Option Head
 head_at l =
     then (taken_at (labelled (ascii "VERSION=")) l 0) λ version to₁.

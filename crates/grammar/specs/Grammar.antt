@@ -86,11 +86,14 @@ closing (p ∷ ps) a = None
 
 -- ---- the two kinds of line
 -- the first line: version and register count
+abbrev pub head_by : ℕ → ℕ → Head
+head_by version registers = record { version = version; registers = registers }
+
 unfoldable pub head_of : List (List ℕ) → Option Head
 head_of ps₀ =
     taking (labelled (ascii "VERSION=")) ps₀ λ version ps₁.
     taking (labelled (ascii "REGISTERS=")) ps₁ λ registers ps₂.
-    closing ps₂ (record { version = version; registers = registers })
+    closing ps₂ (head_by version registers)
 
 -- a word's line: its mnemonic; byte code, position, width, A, B and Y, each after its name; the switches that are on
 unfoldable pub line_of : List (List ℕ) → Option Word
