@@ -49,7 +49,7 @@ impl Served {
     {
         match self.outcome {
             Ok(count) => reasons::numbered(Reason::Done, count),
-            Err(fault) => reasons::numbered(fault.refusal.reason, fault.refusal.place),
+            Err(fault) => Outcome::from(fault.refusal),
         }
     }
 }

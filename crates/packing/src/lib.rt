@@ -3,7 +3,7 @@
 
 ghost use Rattle.std.specs.Prelude.{◌≡◌, ◌∷◌, ◌++◌, ◌+◌, ◌*◌, ◌%◌, ◌^◌, ◌<◌, ◌≤◌, length, drop, leb};
 ghost use Rattle.bits.specs.Bits.{choose};
-ghost use Rattle.reasons.specs.Reasons.{first_of, check_by, check_numbers};
+ghost use Rattle.reasons.specs.Reasons.{first_of, check_numbers};
 ghost use Rattle.packing.specs.Packing.{number6, fields_of, packed_number, bytes6, some, register_fields, too_large, left_idle, InRange, pack_rows, ended, pack_of, unpack_rows, unpack_of, word_or_blank};
 ghost use Rattle.packing.specs.Registers.{only, sources_of, destination_of, names_of, Narrow};
 
@@ -180,7 +180,7 @@ pub fn pack(w: Word, d: &mut [u8]) -> Result<(), Refusal>
 // Unpacking: the word in the first six bytes of `s`.
 pub fn unpack(s: &[u8]) -> Result<Word, Refusal>
     ensures value { result ≡ unpack_of s.now }
-    ensures numbers { check_numbers (check_by result) ≡ check_numbers (first_of (unpack_rows s.now)) }
+    ensures numbers { check_numbers result ≡ check_numbers (first_of (unpack_rows s.now)) }
 {
     refuse_if(s.len() < 6, Reason::Room, 0)?;
     let number = word_number(s);

@@ -13,13 +13,15 @@ use Rattle.machine.specs.Core.{taken, handed_back}
 use Rattle.machine.proofs.Handed.{taken_back, taken_good}
 use Rattle.std.proofs.Common.{Some, Result, Ok, Err}
 use Rattle.std.specs.Prelude.{IsOk}
-use Rattle.reasons.specs.Reasons.{Check, good, answer_numbers}
+use Rattle.std.specs.Result.{is_ok}
+use Rattle.reasons.specs.Reasons.{Check, good, number_of, answer_numbers}
 use Rattle.reasons.specs.declared.Refusal.{Refusal}
 use Rattle.chip.specs.declared.Word.{Word}
 use Rattle.chip.specs.Lists.{State, state, read_at, execs}
 use Rattle.chip.proofs.Words.{execs-size, execs-append}
 use Rattle.sheet.specs.Sheet.{executions_of, between, check_of}
 use Rattle.sheet.proofs.Positions.{all_take, all_drop, take_left, drop-left}
+use Rattle.sheet.proofs.Answers.{check_tells}
 use Rattle.sheet.proofs.Table.{ready, start_within, start-later}
 use Rattle.run.specs.declared.Going.{Going}
 use Rattle.run.specs.declared.RunAnswer.{RunAnswer}
@@ -149,6 +151,16 @@ module _ (s file : List ℕ) (m : Machine) (start allowance : ℕ) where
       go : (c : Check) → check_of s (Some (length file)) (Some start) ≡ c → c ≡ good
       go (Ok passed) d = refl
       go (Err x) d = let f : ◌≡◌ {A = Bool} false true = rw (← run-refused s file m start allowance x d) at h in cc
+
+  -- nor was one whose answer has number 0
+  pub zero_ok : (answer_numbers (run_of s file m start allowance).answer.outcome).reason ≡ 0 → IsOk (run_of s file m start allowance).answer.outcome
+  zero_ok e = go (check_of s (Some (length file)) (Some start)) refl
+    where
+      go : (c : Check) → check_of s (Some (length file)) (Some start) ≡ c → IsOk (run_of s file m start allowance).answer.outcome
+      go (Ok passed) d = ap (λ (x : Ended). is_ok x.answer.outcome) (run_is s file m start allowance d)
+      go (Err x) d =
+          let n : number_of x.reason ≡ 0 = ap (λ (y : Ended). (answer_numbers y.answer.outcome).reason) (run-refused s file m start allowance x d) ∙ e in
+          absurd (omega (arith, check_tells s (Some (length file)) (Some start) x.reason x.place d))
 
   told : answer_numbers (run_of s file m start allowance).answer.outcome ≡ run_outcome s (length file) start allowance
   unfolding run_of
