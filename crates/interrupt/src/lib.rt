@@ -162,9 +162,8 @@ pub fn interrupted<'a>(
         count: 0,
     };
     let last = serve(main, handler, schedule, file, first);
-    let core = last.core;
     Served {
         outcome: Ok(last.count),
-        machine: core.leave(),
+        machine: last.core.leave(),
     }
 }

@@ -43,6 +43,8 @@ pub struct Core {
     pub status: Status,
 }
 
+// Kept: that it is in range (`Sound`) stands in the contract of each page and not in this type. The pages are public functions, named in
+// docs/FUNCTIONS.md, and some take what need not be in range; a type would ask more of who calls those.
 // What a word meets: its byte code I8 I7, position and width, macro select, carry and link, borrow; the A and B inputs; Q and
 // the status register.
 #[derive(Clone, Copy)]

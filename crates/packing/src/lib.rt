@@ -102,14 +102,8 @@ fn packed_number(w: Word) -> u64
 fn six(v: u64) -> [u8; 6]
     ensures { result ≡ bytes6 v }
 {
-    [
-        ((v >> 40) % 256) as u8,
-        ((v >> 32) % 256) as u8,
-        ((v >> 24) % 256) as u8,
-        ((v >> 16) % 256) as u8,
-        ((v >> 8) % 256) as u8,
-        (v % 256) as u8,
-    ]
+    let all = v.to_be_bytes();
+    [all[2], all[3], all[4], all[5], all[6], all[7]]
 }
 
 // The six bytes of a word. Public for the reader of listings, which has seen to the fields.

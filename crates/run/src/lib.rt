@@ -50,7 +50,6 @@ fn step(word: Word, file: &mut [u32], core: Core) -> Shown
     let a = word.a as usize;
     let b = word.b as usize;
     let y = word.y as usize;
-    let status = core.status;
     let x = Inputs {
         code: word.code,
         position: word.position,
@@ -62,7 +61,7 @@ fn step(word: Word, file: &mut [u32], core: Core) -> Shown
         a: file[a],
         b: file[b],
         q: core.q,
-        status,
+        status: core.status,
     };
     let shown = dispatch::operate(word.opcode, x).shown(word.borrow);
     if word.write == 1 {
@@ -104,11 +103,9 @@ fn advance<'a>(
     requires index_bound { (index < words_of (sheet_of of main.now handler.now)) × (going.count + 1 < 2 ^ 64) }
     ensures { Went (word_at (sheet_of of main.now handler.now) index ∷ []) file.old going file.new result }
 {
-    let before = going.core;
-    let shown = step_at(main, handler, of, index, file, before);
-    let core = shown.core;
+    let shown = step_at(main, handler, of, index, file, going.core);
     Going {
-        core,
+        core: shown.core,
         count: going.count + 1,
     }
 }
@@ -161,10 +158,9 @@ pub fn run(
         count: 0,
     };
     let last = span(sheet, sheet, Which::Main, file, first, start, start + count);
-    let core = last.core;
     RunAnswer {
         outcome: Ok(last.count),
-        machine: core.leave(),
+        machine: last.core.leave(),
     }
 }
 
@@ -241,8 +237,7 @@ pub fn one_word(sheet: &[u8], file: &mut [u32], machine: Machine, start: usize) 
         return no_word(Err(refusal), machine);
     }
     if sheet::executions(sheet) <= start {
-        let core = machine.enter();
-        return no_word(Ok(0), core.leave());
+        return no_word(Ok(0), machine.enter().leave());
     }
     perform(
         sheet::word_at(sheet, sheet, Which::Main, start),

@@ -32,7 +32,7 @@ fn header(s: &[u8]) -> u32
     requires { 4 ≤ length s.now }
     ensures { result ≡ number4 s.now }
 {
-    bits::four_bytes(s[0], s[1], s[2], s[3])
+    bits::four_bytes_at(s, 0)
 }
 
 // The word count of a header.
