@@ -147,18 +147,11 @@ static MNEMONICS: [[u8; COLUMN]; 128] = [
     *b"PASS-MASK   ",
 ];
 
-// All of them, where they stand.
-pub fn names() -> &'static [[u8; COLUMN]; 128]
+// All of them, where they stand: nothing is copied.
+pub fn table() -> &'static [[u8; COLUMN]; 128]
     ensures { result.now ≡ columns }
 {
     &MNEMONICS
-}
-
-// The same, by value.
-pub fn table() -> [[u8; COLUMN]; 128]
-    ensures { result ≡ columns }
-{
-    MNEMONICS
 }
 
 // The mnemonic of an opcode number, in its column.
@@ -166,5 +159,5 @@ pub fn column(opcode: usize) -> [u8; COLUMN]
     requires { opcode < 128 }
     ensures { result ≡ in_column (mnemonic_of opcode) }
 {
-    names()[opcode]
+    table()[opcode]
 }
