@@ -1,18 +1,40 @@
 -- Places in a line: the first byte from a place on that does not pass a test, looked for byte by byte.
-use mathlib.Core.Path.{◌≡◌, refl}
+use mathlib.Core.Path.{◌≡◌, refl, ap, ◌∙◌}
 use mathlib.Core.List.{List, [], ◌∷◌}
-use mathlib.Core.Bool.{Bool, true, false}
-use Prim.Native.Nat.{ℕ, suc, ◌+◌, ◌≤◌, ◌<◌}
+use mathlib.Core.Bool.{Bool, true, false, cond}
+use Prim.Native.Nat.{ℕ, suc, ◌+◌, ◌-◌, ◌≤◌, ◌<◌}
 use native.Mathlib.Numerals.{add-one}
 use native.Mathlib.Omega.{arith}
 use borrow.Author.Tests.{eqb-true, eqb-false, eq-eqb, ne_eqb}
 use lib.Dec.{eqb}
-use lib.ListN.{length, get_or, drop, drop_of_length-le, length-drop}
-use lib.Seq.{drop-cons}
+use lib.ListN.{length, get_or, take, drop, drop_of_length-le, length-drop}
+use lib.Seq.{drop-cons, take-length}
+use Rattle.std.specs.List.{prefix_len, take_while}
+use Rattle.std.proofs.lemmas.List.Folds.{length-prefix_len}
 use Rattle.grammar.specs.declared.Part.{Part}
 use Rattle.grammar.specs.Grammar.{choose, blank}
 use Rattle.grammar.specs.Scan.{solid, leading, start_of, stop_of, part_of, all_blank, no_more}
 
+-- ---- counted
+-- what is left of a list from a place on, as the code lends it
+pub rest_is : {A : Type 0} (i : ℕ) (l : List A) → take (length l - i) (drop i l) ≡ drop i l
+rest_is i l = rw (← length-drop i l) (take-length (drop i l))
+
+-- std's count of the bytes before the first that does not pass is the definition's
+leading_is : (f : ℕ → Bool) (l : List ℕ) → prefix_len f l ≡ leading f l
+leading_is f [] = refl
+leading_is f (c ∷ cs) = go (f c) (leading_is f cs)
+  where
+    go : (b : Bool) → prefix_len f cs ≡ leading f cs → cond b (1 + prefix_len f cs) 0 ≡ choose b (suc (leading f cs)) 0
+    go true e = omega (arith, e)
+    go false e = refl
+
+pub counted : (f : ℕ → Bool) (l : List ℕ) (at : ℕ) {n : ℕ} → n ≡ length (take_while f (take (length l - at) (drop at l))) → at + n ≡ at + leading f (drop at l)
+counted f l at e =
+    ap (λ (n : ℕ). at + n)
+    (e ∙ ap (λ (r : List ℕ). length (take_while f r)) (rest_is at l) ∙ length-prefix_len f (drop at l) ∙ leading_is f (drop at l))
+
+-- ---- looked for byte by byte
 -- what holds at each turn: the bytes between the two places pass, so that both lead to the same end
 pub record Passing (f : ℕ → Bool) (l : List ℕ) (at k : ℕ) : Type 0 where
   pub upto : k ≤ length l

@@ -7,11 +7,11 @@ use native.Mathlib.Nat.{add-sub_cancel_left}
 use lib.Dec.{eqb-zero-suc, eqb-suc-suc}
 use lib.ListN.{length, take, drop}
 use lib.Seq.{drop-drop}
-use Rattle.grammar.specs.declared.Found.{Found}
-use Rattle.grammar.specs.declared.Found.TheVariants.{Number, Nothing}
+use Rattle.std.specs.Prelude.{Option, Some, None, option_and_then}
+use Rattle.std.specs.Bool.{then_some}
 use Rattle.grammar.specs.declared.Part.{Part}
 use Rattle.text.specs.Ascii.{same}
-use Rattle.grammar.specs.Grammar.{choose, blank, capital, onto, pieces, filled, parts_of, taking, found, offered, closing}
+use Rattle.grammar.specs.Grammar.{choose, blank, capital, onto, pieces, filled, parts_of, taking, offered, closing}
 use Rattle.grammar.specs.Scan.{solid, leading, start_of, stop_of, part_of, part_at, taken_by, taken_at, then, switch_by, switch_at, all_blank, no_more}
 use Rattle.grammar.proofs.Bytes.{blank-capital}
 
@@ -78,34 +78,34 @@ parts_at l i =
     y = drop (start_of l i) l
 
 -- ---- what the grammar does with the parts from a place on, by places
-module _ {A : Type 0} (outside : A) where
+module _ {A : Type 0} where
   -- the next part as a number: what was found, what the next part says, what the parts from a place on say
-  found_as : (r : Found) (l : List ℕ) (to : ℕ) (go : ℕ → List (List ℕ) → A)
-      → found outside r (λ n. go n (parts_of (drop to l))) ≡ then outside (taken_by r to) (λ n t. go n (parts_of (drop t l)))
-  found_as (Number n) l to go = refl
-  found_as Nothing l to go = refl
+  found_as : (r : Option ℕ) (l : List ℕ) (to : ℕ) (go : ℕ → List (List ℕ) → Option A)
+      → option_and_then (λ n. go n (parts_of (drop to l))) r ≡ then (taken_by r to) (λ n t. go n (parts_of (drop t l)))
+  found_as (Some n) l to go = refl
+  found_as None l to go = refl
 
-  taking_as : (f : List ℕ → Found) (p l : List ℕ) (to : ℕ) (go : ℕ → List (List ℕ) → A) → f [] ≡ Nothing
-      → taking outside f (before p (parts_of (drop to l))) go ≡ then outside (taken_by (f p) to) (λ n t. go n (parts_of (drop t l)))
+  taking_as : (f : List ℕ → Option ℕ) (p l : List ℕ) (to : ℕ) (go : ℕ → List (List ℕ) → Option A) → f [] ≡ None
+      → taking f (before p (parts_of (drop to l))) go ≡ then (taken_by (f p) to) (λ n t. go n (parts_of (drop t l)))
   taking_as f [] l to go e = rw e
   taking_as f (c ∷ p) l to go e = found_as (f (c ∷ p)) l to go
 
-  pub taking-at : (f : List ℕ → Found) (l : List ℕ) (i : ℕ) (go : ℕ → List (List ℕ) → A) → f [] ≡ Nothing
-      → taking outside f (parts_of (drop i l)) go ≡ then outside (taken_at f l i) (λ n to. go n (parts_of (drop to l)))
-  taking-at f l i go e = ap (λ (ps : List (List ℕ)). taking outside f ps go) (parts_at l i) ∙ taking_as f (part_at l i) l (stop_of l i) go e
+  pub taking-at : (f : List ℕ → Option ℕ) (l : List ℕ) (i : ℕ) (go : ℕ → List (List ℕ) → Option A) → f [] ≡ None
+      → taking f (parts_of (drop i l)) go ≡ then (taken_at f l i) (λ n to. go n (parts_of (drop to l)))
+  taking-at f l i go e = ap (λ (ps : List (List ℕ)). taking f ps go) (parts_at l i) ∙ taking_as f (part_at l i) l (stop_of l i) go e
 
   -- no part is left
-  closing-all : (x : List ℕ) (a : A) → closing outside (parts_of x) a ≡ choose (all_blank x) a outside
+  closing-all : (x : List ℕ) (a : A) → closing (parts_of x) a ≡ then_some (all_blank x) a
   unfolding parts_of pieces
   closing-all [] a = refl
   closing-all (c ∷ cs) a = go (blank c) refl (closing-all cs a)
     where
-      go : (b : Bool) → blank c ≡ b → closing outside (parts_of cs) a ≡ choose (all_blank cs) a outside → closing outside (parts_of (c ∷ cs)) a ≡ choose (all_blank (c ∷ cs)) a outside
+      go : (b : Bool) → blank c ≡ b → closing (parts_of cs) a ≡ then_some (all_blank cs) a → closing (parts_of (c ∷ cs)) a ≡ then_some (all_blank (c ∷ cs)) a
       go true h rest = rw (blank-capital c, h, eqb-suc-suc (leading blank cs) (length cs)) rest
       go false h rest =
-          ap (λ (ps : List (List ℕ)). closing outside ps a) (parts_solid c cs h ∙ part-from (capital c) cs) ∙ rw (h, eqb-zero-suc (length cs))
+          ap (λ (ps : List (List ℕ)). closing ps a) (parts_solid c cs h ∙ part-from (capital c) cs) ∙ rw (h, eqb-zero-suc (length cs))
 
-  pub closing_at : (l : List ℕ) (i : ℕ) (a : A) → closing outside (parts_of (drop i l)) a ≡ choose (no_more l i) a outside
+  pub closing_at : (l : List ℕ) (i : ℕ) (a : A) → closing (parts_of (drop i l)) a ≡ then_some (no_more l i) a
   unfolding no_more
   closing_at l i a = closing-all (drop i l) a
 
@@ -128,7 +128,7 @@ module _ {A : Type 0} where
 
 -- ---- the part that the code lends is the definitions'
 module _ (l : List ℕ) (i : ℕ) {p : Part} (e : p ≡ part_of l i) where
-  pub taken-part : (f : List ℕ → Found) {r : Found} → r ≡ f (map capital (take (p.to - p.from) (drop p.from l))) → taken_by r p.to ≡ taken_at f l i
+  pub taken-part : (f : List ℕ → Option ℕ) {r : Option ℕ} → r ≡ f (map capital (take (p.to - p.from) (drop p.from l))) → taken_by r p.to ≡ taken_at f l i
   unfolding part_at
   taken-part f g = rw (g, e)
 

@@ -1,14 +1,11 @@
 -- The grammar of a listing (docs/LISTING.md): which lines belong to it, and what they say.
-use Rattle.std.specs.Prelude.{List, [], ◌∷◌, map, Bool, true, false, ◌&&◌, ◌||◌, ℕ, ◌+◌, ◌-◌, ◌*◌, length, drop, eqb, leb}
+use Rattle.std.specs.Prelude.{List, [], ◌∷◌, map, Bool, true, false, ◌&&◌, ◌||◌, ℕ, ◌+◌, ◌-◌, ◌*◌, length, drop, eqb, Option, Some, None, option_and_then, position}
+use Rattle.std.specs.Char.{is_ascii_digit, to_ascii_uppercase}
 use Prim.Native.String.{String}
 use Rattle.text.specs.Ascii.{ascii, newline, same}
 use Rattle.mnemonics.specs.Mnemonics.{mnemonics}
-use Rattle.grammar.specs.declared.Found.{Found}
-use Rattle.grammar.specs.declared.Found.TheVariants.{Number, Nothing}
-use Rattle.grammar.specs.declared.Line.{Line}
-use Rattle.grammar.specs.declared.Line.TheVariants.{Read, Outside}
+use Rattle.chip.specs.declared.Word.{Word}
 use Rattle.grammar.specs.declared.Head.{Head}
-use Rattle.grammar.specs.declared.Head.TheVariants.{Declared, Outside as NoHead}
 
 -- one of two
 abbrev pub choose : {A : Type 0} → Bool → A → A → A
@@ -22,7 +19,7 @@ blank c = eqb c 32 || eqb c 9 || eqb c 13
 
 -- a small letter counts as its capital
 abbrev pub capital : ℕ → ℕ
-capital c = choose (leb 97 c && leb c 122) (c - 32) c
+capital c = to_ascii_uppercase c
 
 -- ---- lines and parts
 -- a byte in front of the first of some pieces
@@ -50,15 +47,12 @@ unfoldable pub parts_of : List ℕ → List (List ℕ)
 parts_of line = filled (pieces blank (map capital line))
 
 -- ---- one part
-abbrev pub is_digit : ℕ → Bool
-is_digit c = leb 48 c && leb c 57
-
 -- one or two decimal digits
-abbrev pub number_in : List ℕ → Found
-number_in [] = Nothing
-number_in (d ∷ []) = choose (is_digit d) (Number (d - 48)) Nothing
-number_in (d ∷ e ∷ []) = choose (is_digit d && is_digit e) (Number (10 * (d - 48) + (e - 48))) Nothing
-number_in (d ∷ e ∷ f ∷ l) = Nothing
+abbrev pub number_in : List ℕ → Option ℕ
+number_in [] = None
+number_in (d ∷ []) = choose (is_ascii_digit d) (Some (d - 48)) None
+number_in (d ∷ e ∷ []) = choose (is_ascii_digit d && is_ascii_digit e) (Some (10 * (d - 48) + (e - 48))) None
+number_in (d ∷ e ∷ f ∷ l) = None
 
 abbrev pub starts_with : List ℕ → List ℕ → Bool
 starts_with [] p = true
@@ -66,28 +60,19 @@ starts_with (c ∷ cs) [] = false
 starts_with (c ∷ cs) (d ∷ ds) = eqb c d && starts_with cs ds
 
 -- a number after its name
-unfoldable pub labelled : List ℕ → List ℕ → Found
-labelled name part = choose (starts_with name part) (number_in (drop (length name) part)) Nothing
+unfoldable pub labelled : List ℕ → List ℕ → Option ℕ
+labelled name part = choose (starts_with name part) (number_in (drop (length name) part)) None
 
--- the number of a mnemonic: its place in the table, from place k on
-abbrev pub place_of : List ℕ → ℕ → List String → Found
-place_of part k [] = Nothing
-place_of part k (m ∷ ms) = choose (same part (ascii m)) (Number k) (place_of part (k + 1) ms)
+-- the number of a mnemonic: its place in the table
+unfoldable pub opcode_of : List ℕ → Option ℕ
+opcode_of [] = None
+opcode_of (c ∷ part) = position (λ (m : String). same (c ∷ part) (ascii m)) mnemonics
 
-unfoldable pub opcode_of : List ℕ → Found
-opcode_of [] = Nothing
-opcode_of (c ∷ part) = place_of (c ∷ part) 0 mnemonics
-
--- ---- one part after another
--- what is found, or else the line is outside the grammar
-abbrev pub found : {A : Type 0} → A → Found → (ℕ → A) → A
-found outside (Number n) go = go n
-found outside Nothing go = outside
-
+-- ---- one part after another; a line that lacks one is outside the grammar
 -- the next part, which has to be there, as a number
-abbrev pub taking : {A : Type 0} → A → (List ℕ → Found) → List (List ℕ) → (ℕ → List (List ℕ) → A) → A
-taking outside f [] go = outside
-taking outside f (p ∷ ps) go = found outside (f p) (λ n. go n ps)
+abbrev pub taking : {A : Type 0} → (List ℕ → Option ℕ) → List (List ℕ) → (ℕ → List (List ℕ) → Option A) → Option A
+taking f [] go = None
+taking f (p ∷ ps) go = option_and_then (λ n. go n ps) (f p)
 
 -- the next part, if it is this name: 1, else 0 and the part is still to come
 abbrev pub offered : {A : Type 0} → List ℕ → List (List ℕ) → (ℕ → List (List ℕ) → A) → A
@@ -95,35 +80,37 @@ offered name [] go = go 0 []
 offered name (p ∷ ps) go = choose (same p name) (go 1 ps) (go 0 (p ∷ ps))
 
 -- no part is left
-abbrev pub closing : {A : Type 0} → A → List (List ℕ) → A → A
-closing outside [] a = a
-closing outside (p ∷ ps) a = outside
+abbrev pub closing : {A : Type 0} → List (List ℕ) → A → Option A
+closing [] a = Some a
+closing (p ∷ ps) a = None
 
 -- ---- the two kinds of line
 -- the first line: version and register count
-unfoldable pub head_of : List (List ℕ) → Head
+abbrev pub head_by : ℕ → ℕ → Head
+head_by version registers = record { version = version; registers = registers }
+
+unfoldable pub head_of : List (List ℕ) → Option Head
 head_of ps₀ =
-    taking NoHead (labelled (ascii "VERSION=")) ps₀ λ version ps₁.
-    taking NoHead (labelled (ascii "REGISTERS=")) ps₁ λ registers ps₂.
-    closing NoHead ps₂ (Declared version registers)
+    taking (labelled (ascii "VERSION=")) ps₀ λ version ps₁.
+    taking (labelled (ascii "REGISTERS=")) ps₁ λ registers ps₂.
+    closing ps₂ (head_by version registers)
 
 -- a word's line: its mnemonic; byte code, position, width, A, B and Y, each after its name; the switches that are on
-unfoldable pub line_of : List (List ℕ) → Line
+unfoldable pub line_of : List (List ℕ) → Option Word
 line_of ps₀ =
-    taking Outside opcode_of ps₀ λ opcode ps₁.
-    taking Outside (labelled (ascii "CODE=")) ps₁ λ code ps₂.
-    taking Outside (labelled (ascii "POSITION=")) ps₂ λ position ps₃.
-    taking Outside (labelled (ascii "WIDTH=")) ps₃ λ width ps₄.
-    taking Outside (labelled (ascii "A=")) ps₄ λ a ps₅.
-    taking Outside (labelled (ascii "B=")) ps₅ λ b ps₆.
-    taking Outside (labelled (ascii "Y=")) ps₆ λ y ps₇.
+    taking opcode_of ps₀ λ opcode ps₁.
+    taking (labelled (ascii "CODE=")) ps₁ λ code ps₂.
+    taking (labelled (ascii "POSITION=")) ps₂ λ position ps₃.
+    taking (labelled (ascii "WIDTH=")) ps₃ λ width ps₄.
+    taking (labelled (ascii "A=")) ps₄ λ a ps₅.
+    taking (labelled (ascii "B=")) ps₅ λ b ps₆.
+    taking (labelled (ascii "Y=")) ps₆ λ y ps₇.
     offered (ascii "WRITE") ps₇ λ write ps₈.
     offered (ascii "MACRO-SELECT") ps₈ λ select ps₉.
     offered (ascii "MACRO-CARRY") ps₉ λ carry ps₁₀.
     offered (ascii "MACRO-LINK") ps₁₀ λ link ps₁₁.
     offered (ascii "BORROW") ps₁₁ λ borrow ps₁₂.
-    closing Outside ps₁₂
-    (Read
+    closing ps₁₂
     (record {
       opcode = opcode;
       code = code;
@@ -137,11 +124,11 @@ line_of ps₀ =
       carry = carry;
       link = link;
       borrow = borrow;
-    }))
+    })
 
 -- what a line says as the first one, and as a word's
-abbrev pub head_in : List ℕ → Head
+abbrev pub head_in : List ℕ → Option Head
 head_in line = head_of (parts_of line)
 
-abbrev pub word_in : List ℕ → Line
+abbrev pub word_in : List ℕ → Option Word
 word_in line = line_of (parts_of line)

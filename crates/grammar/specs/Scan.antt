@@ -1,14 +1,8 @@
 -- The grammar by places in a line: what the code looks at from a place on. That both say the same is proved (proofs/Scan.antt
 -- and proofs/Lines.antt).
-use Rattle.std.specs.Prelude.{List, [], ◌∷◌, map, Bool, not, ℕ, suc, ◌+◌, ◌-◌, length, take, drop, eqb}
+use Rattle.std.specs.Prelude.{List, [], ◌∷◌, map, Bool, not, ℕ, suc, ◌+◌, ◌-◌, length, take, drop, eqb, Option, Some, option_and_then, option_map}
 use Rattle.text.specs.Ascii.{ascii, same}
 use Rattle.grammar.specs.declared.Part.{Part}
-use Rattle.grammar.specs.declared.Found.{Found}
-use Rattle.grammar.specs.declared.Found.TheVariants.{Number, Nothing}
-use Rattle.grammar.specs.declared.Taken.{Taken}
-use Rattle.grammar.specs.declared.Taken.TheVariants.{Upto, Missing}
-use Rattle.grammar.specs.declared.Three.{Three}
-use Rattle.grammar.specs.declared.Three.TheVariants.{Numbers, Few}
 use Rattle.grammar.specs.declared.Switch.{Switch}
 use Rattle.grammar.specs.declared.Switches.{Switches}
 use Rattle.grammar.specs.Grammar.{choose, blank, capital, labelled}
@@ -44,24 +38,22 @@ abbrev pub name_in : List ℕ → List ℕ
 name_in column = take (solid_end column 0) column
 
 -- the next part as a number, and where it ends
-abbrev pub taken_by : Found → ℕ → Taken
-taken_by (Number n) to = Upto n to
-taken_by Nothing to = Missing
+abbrev pub taken_by : Option ℕ → ℕ → Option (ℕ × ℕ)
+taken_by found to = option_map (λ n. (n, to)) found
 
-abbrev pub taken_at : (List ℕ → Found) → List ℕ → ℕ → Taken
+abbrev pub taken_at : (List ℕ → Option ℕ) → List ℕ → ℕ → Option (ℕ × ℕ)
 taken_at f line at = taken_by (f (part_at line at)) (stop_of line at)
 
-abbrev pub then : {A : Type 0} → A → Taken → (ℕ → ℕ → A) → A
-then outside (Upto n to) go = go n to
-then outside Missing go = outside
+abbrev pub then : {A : Type 0} → Option (ℕ × ℕ) → (ℕ → ℕ → Option A) → Option A
+then taken go = option_and_then (λ t. go t.0 t.1) taken
 
--- three numbers, each after its name
-unfoldable pub three_at : List ℕ → ℕ → List ℕ → List ℕ → List ℕ → Three
+-- three numbers, each after its name, and where the last one ends
+unfoldable pub three_at : List ℕ → ℕ → List ℕ → List ℕ → List ℕ → Option (ℕ × ℕ × ℕ × ℕ)
 three_at line at first second third =
-    then Few (taken_at (labelled first) line at) λ x to₁.
-    then Few (taken_at (labelled second) line to₁) λ y to₂.
-    then Few (taken_at (labelled third) line to₂) λ z to₃.
-    Numbers x y z to₃
+    then (taken_at (labelled first) line at) λ x to₁.
+    then (taken_at (labelled second) line to₁) λ y to₂.
+    then (taken_at (labelled third) line to₂) λ z to₃.
+    Some (x, y, z, to₃)
 
 -- a switch: 1 if the next part is its name, else 0 and the part is still to come
 abbrev pub switch_by : Bool → ℕ → ℕ → Switch

@@ -18,9 +18,8 @@ use Rattle.reasons.specs.declared.Check.TheVariants.{Good, Bad}
 use Rattle.reasons.proofs.Rows.{first_bad, first_good}
 use Rattle.reasons.proofs.Numbers.{Tells, Telling, telling_first, telling_on}
 use Rattle.grammar.specs.declared.Head.{Head}
-use Rattle.grammar.specs.declared.Head.TheVariants.{Declared, Outside as NoHead}
-use Rattle.grammar.specs.declared.Line.{Line}
-use Rattle.grammar.specs.declared.Line.TheVariants.{Read, Outside}
+use Rattle.chip.specs.declared.Word.{Word}
+use Rattle.std.specs.Prelude.{Option, Some, None}
 use Rattle.grammar.specs.Grammar.{word_in}
 use Rattle.reading.specs.Reader.{first_in, word_lines_in, version_by, registers_by, head_rows, line_rows, lines_rows, size_rows, read_rows, header4, split4, packed_line, packed_lines, sheet_in, read_of}
 use Rattle.reading.proofs.Table.{size-count, size_good}
@@ -42,14 +41,14 @@ sheet_length t =
 
 -- ---- in numbers: no row gives reason 0
 -- of the first line's rows
-head_tells : (x : Head) → Telling (head_rows x)
-head_tells NoHead = (omega arith, tt)
-head_tells (Declared v n) = (omega arith, (omega arith, tt))
+head_tells : (x : Option Head) → Telling (head_rows x)
+head_tells None = (omega arith, tt)
+head_tells (Some h) = (omega arith, (omega arith, tt))
 
 -- of a word's line's
-line_tells : (n k : ℕ) (x : Line) → Telling (line_rows n k x)
-line_tells n k Outside = (omega arith, tt)
-line_tells n k (Read w) = (omega arith, (omega arith, (omega arith, tt)))
+line_tells : (n k : ℕ) (x : Option Word) → Telling (line_rows n k x)
+line_tells n k None = (omega arith, tt)
+line_tells n k (Some w) = (omega arith, (omega arith, (omega arith, tt)))
 
 -- of all words' lines'
 lines-tell : (n k : ℕ) (ls : List (List ℕ)) → Telling (lines_rows n k ls)
@@ -86,14 +85,14 @@ Others [] = Unit
 Others (r ∷ rs) = (of_the_whole r.reason ≡ false) × Others rs
 
 -- so of the first line's rows
-head-others : (x : Head) → Others (head_rows x)
-head-others NoHead = (refl, tt)
-head-others (Declared v n) = (refl, (refl, tt))
+head-others : (x : Option Head) → Others (head_rows x)
+head-others None = (refl, tt)
+head-others (Some h) = (refl, (refl, tt))
 
 -- of a word's line's
-line-others : (n k : ℕ) (x : Line) → Others (line_rows n k x)
-line-others n k Outside = (refl, tt)
-line-others n k (Read w) = (refl, (refl, (refl, tt)))
+line-others : (n k : ℕ) (x : Option Word) → Others (line_rows n k x)
+line-others n k None = (refl, tt)
+line-others n k (Some w) = (refl, (refl, (refl, tt)))
 
 -- of two such tables, one after the other
 others_on : (a b : List Row) → Others a → Others b → Others (a ++ b)

@@ -13,8 +13,8 @@ use Rattle.reasons.specs.declared.Reason.TheVariants.{Room, Count}
 use Rattle.reasons.specs.declared.Check.{Check}
 use Rattle.reasons.specs.declared.Check.TheVariants.{Good, Bad}
 use Rattle.grammar.specs.declared.Head.{Head}
-use Rattle.grammar.specs.declared.Head.TheVariants.{Declared}
-use Rattle.grammar.specs.Grammar.{lines_of, head_in}
+use Rattle.std.specs.Prelude.{Option, Some}
+use Rattle.grammar.specs.Grammar.{lines_of, head_by, head_in}
 use Rattle.reading.specs.Reader.{end_of, first_in, word_lines_in, head_rows, lines_rows, size_rows, read_rows, header4, split4, packed_lines, sheet_in, read_of, AllFit}
 use Rattle.reading.proofs.Lines.{first_is, rest_is}
 use Rattle.reading.proofs.Table.{past_lines, first-sound, size-count, size_room, size_good}
@@ -22,19 +22,19 @@ use Rattle.reading.proofs.Words.{all_fit}
 
 -- ---- what the code saw
 -- the first line, read from the bytes before its end
-pub first_read : (t : List ℕ) {end : ℕ} {h g : Head} → end ≡ end_of t 0 → h ≡ head_in (take end t) → h ≡ g → first_in t ≡ g
+pub first_read : (t : List ℕ) {end : ℕ} {h g : Option Head} → end ≡ end_of t 0 → h ≡ head_in (take end t) → h ≡ g → first_in t ≡ g
 first_read t e eh f = ap head_in (first_is t e) ∙ sym eh ∙ f
 
 -- a first line that was checked, and where the others start
 pub record Begun (t : List ℕ) (v n from : ℕ) : Type 0 where
   pub within : from ≤ length t
-  pub head : first_in t ≡ Declared v n
-  pub good : first_of (head_rows (Declared v n)) ≡ Good
+  pub head : first_in t ≡ Some (head_by v n)
+  pub good : first_of (head_rows (Some (head_by v n))) ≡ Good
   pub lines : word_lines_in t ≡ lines_of (drop from t)
 
 -- by what its parts answered
-pub begun : {t : List ℕ} {end v n from : ℕ} {h : Head} {c : Check} → end ≡ end_of t 0 → h ≡ head_in (take end t) → h ≡ Declared v n
-    → c ≡ first_of (head_rows (Declared v n)) → c ≡ Good → from ≡ min (end + 1) (length t) → Begun t v n from
+pub begun : {t : List ℕ} {end v n from : ℕ} {h : Option Head} {c : Check} → end ≡ end_of t 0 → h ≡ head_in (take end t) → h ≡ Some (head_by v n)
+    → c ≡ first_of (head_rows (Some (head_by v n))) → c ≡ Good → from ≡ min (end + 1) (length t) → Begun t v n from
 begun {t} e eh f ec g ef = record { within = omega arith; head = first_read t e eh f; good = sym ec ∙ g; lines = rest_is t e ef }
 
 -- the others, checked and counted

@@ -14,8 +14,8 @@ use Rattle.reasons.proofs.Rows.{None, good_none, first_bad, first_good}
 use Rattle.reasons.proofs.Rows.None.{more}
 use Rattle.packing.proofs.Numbers.{or_right}
 use Rattle.grammar.specs.declared.Head.{Head}
-use Rattle.grammar.specs.declared.Head.TheVariants.{Declared, Outside as NoHead}
-use Rattle.grammar.specs.Grammar.{lines_of, word_in}
+use Rattle.std.specs.Prelude.{Option, Some, None as NoHead}
+use Rattle.grammar.specs.Grammar.{lines_of, head_by, word_in}
 use Rattle.reading.specs.Reader.{first_in, word_lines_in, registers_by, head_rows, line_rows, lines_rows, size_rows, read_rows}
 use Rattle.reading.proofs.Lines.{Step, lines_none}
 
@@ -64,26 +64,26 @@ module _ {n : ℕ} {t : List ℕ} {from at k : ℕ} (c : Checking n t from at k)
 -- ---- the whole table
 module _ (t : List ℕ) (room : ℕ) where
   -- what follows the first line's rows
-  abbrev later : Head → List Row
+  abbrev later : Option Head → List Row
   later x = lines_rows (registers_by x) 1 (word_lines_in t) ++ size_rows (length (word_lines_in t)) room
 
   -- the first line is outside the grammar
   pub at_outside : first_in t ≡ NoHead → first_of (read_rows t room) ≡ Bad Text 0
   unfolding read_rows
-  at_outside e = ap (λ (x : Head). first_of (head_rows x ++ later x)) e
+  at_outside e = ap (λ (x : Option Head). first_of (head_rows x ++ later x)) e
 
-  module _ {v n : ℕ} (e : first_in t ≡ Declared v n) where
+  module _ {v n : ℕ} (e : first_in t ≡ Some (head_by v n)) where
     -- it is refused
-    pub at_first : {r : Reason} {p : ℕ} → first_of (head_rows (Declared v n)) ≡ Bad r p → first_of (read_rows t room) ≡ Bad r p
+    pub at_first : {r : Reason} {p : ℕ} → first_of (head_rows (Some (head_by v n))) ≡ Bad r p → first_of (read_rows t room) ≡ Bad r p
     unfolding read_rows
-    at_first {r} {p} f = ap (λ (x : Head). first_of (head_rows x ++ later x)) e ∙ first_bad (head_rows (Declared v n)) (later (Declared v n)) r p f
+    at_first {r} {p} f = ap (λ (x : Option Head). first_of (head_rows x ++ later x)) e ∙ first_bad (head_rows (Some (head_by v n))) (later (Some (head_by v n))) r p f
 
-    module _ {ls : List (List ℕ)} (good : first_of (head_rows (Declared v n)) ≡ Good) (el : word_lines_in t ≡ ls) where
+    module _ {ls : List (List ℕ)} (good : first_of (head_rows (Some (head_by v n))) ≡ Good) (el : word_lines_in t ≡ ls) where
       -- it is not: what is left are the lines' rows and those of the whole
       past_first : first_of (read_rows t room) ≡ first_of (lines_rows n 1 ls ++ size_rows (length ls) room)
       unfolding read_rows
       past_first =
-          ap (λ (x : Head). first_of (head_rows x ++ later x)) e ∙ first_good (head_rows (Declared v n)) (later (Declared v n)) good
+          ap (λ (x : Option Head). first_of (head_rows x ++ later x)) e ∙ first_good (head_rows (Some (head_by v n))) (later (Some (head_by v n))) good
           ∙ ap (λ (x : List (List ℕ)). first_of (lines_rows n 1 x ++ size_rows (length x) room)) el
 
       -- a word's line is refused
@@ -106,8 +106,8 @@ module _ (count room : ℕ) where
   size_good h r = rw (le-ltb 4095 count h, le-ltb room (4 + 6 * count) r) refl
 
 -- a first line that was checked: version 1, and few registers
-pub first-sound : (v n : ℕ) → first_of (head_rows (Declared v n)) ≡ Good → (v ≡ 1) × (n ≤ 64)
-first-sound v n e = go (good_none (head_rows (Declared v n)) e)
+pub first-sound : (v n : ℕ) → first_of (head_rows (Some (head_by v n))) ≡ Good → (v ≡ 1) × (n ≤ 64)
+first-sound v n e = go (good_none (head_rows (Some (head_by v n))) e)
   where
-    go : None (head_rows (Declared v n)) → (v ≡ 1) × (n ≤ 64)
+    go : None (head_rows (Some (head_by v n))) → (v ≡ 1) × (n ≤ 64)
     go (more h₁ (more h₂ t)) = (eqb-true v 1 (not-false _ h₁), ltb-false 64 n (or_right (eqb n 0) (ltb 64 n) h₂))

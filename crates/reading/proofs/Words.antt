@@ -10,8 +10,8 @@ use Rattle.reasons.proofs.Rows.None.{more}
 use Rattle.packing.specs.Packing.{InRange}
 use Rattle.packing.proofs.Numbers.{in_range}
 use Rattle.grammar.proofs.Pages.{word-page}
-use Rattle.grammar.specs.declared.Line.{Line}
-use Rattle.grammar.specs.declared.Line.TheVariants.{Read, Outside}
+use Rattle.chip.specs.declared.Word.{Word}
+use Rattle.std.specs.Prelude.{Option, Some, None as Outside}
 use Rattle.grammar.specs.Grammar.{word_in}
 use Rattle.reading.specs.Reader.{line_rows, lines_rows, word_by, AllFit}
 
@@ -20,8 +20,8 @@ use Rattle.reading.specs.Reader.{line_rows, lines_rows, word_by, AllFit}
 line_fits : (n k : ℕ) (l : List ℕ) → None (line_rows n k (word_in l)) → InRange (word_by (word_in l))
 line_fits n k l h = go (word_in l) refl h
   where
-    go : (x : Line) → word_in l ≡ x → None (line_rows n k x) → InRange (word_by x)
-    go (Read w) e (more h₁ t) = in_range w (word-page l w e) h₁
+    go : (x : Option Word) → word_in l ≡ x → None (line_rows n k x) → InRange (word_by x)
+    go (Some w) e (more h₁ t) = in_range w (word-page l w e) h₁
     go Outside e (more h₁ t) = absurd (true≢false h₁)
 
 -- and so of all lines

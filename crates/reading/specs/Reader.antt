@@ -1,15 +1,12 @@
 -- The reader: the sheet that a text stands for, into a lent buffer, or the reason why not and the line (document 02, requests 2 and 5).
-use Rattle.std.specs.Prelude.{List, [], ◌∷◌, ◌++◌, true, not, ◌||◌, ℕ, ◌+◌, ◌*◌, ◌/◌, ◌%◌, ◌^◌, length, get_or, drop, eqb, ltb, leb}
+use Rattle.std.specs.Prelude.{List, [], ◌∷◌, ◌++◌, true, not, ◌||◌, ℕ, ◌+◌, ◌*◌, ◌/◌, ◌%◌, ◌^◌, length, get_or, drop, eqb, ltb, leb, Option, Some, None}
 use Rattle.reasons.specs.Reasons.{Row, ◌gives◌at◌, first_of}
 use Rattle.reasons.specs.declared.Reason.TheVariants.{Inputs, Version, Header, Register, Room, Text, Count, Idle}
 use Rattle.text.specs.Ascii.{newline}
 use Rattle.chip.specs.declared.Word.{Word}
 use Rattle.packing.specs.Packing.{packed_number, bytes6, some, register_fields, too_large, left_idle, differ, InRange, blank}
 use Rattle.reasons.specs.Output.{Wrote, wrote_by}
-use Rattle.grammar.specs.declared.Line.{Line}
-use Rattle.grammar.specs.declared.Line.TheVariants.{Read, Outside}
 use Rattle.grammar.specs.declared.Head.{Head}
-use Rattle.grammar.specs.declared.Head.TheVariants.{Declared, Outside as NoHead}
 use Rattle.grammar.specs.Grammar.{lines_of, head_in, word_in}
 use Rattle.grammar.specs.Scan.{leading}
 
@@ -19,32 +16,32 @@ abbrev pub end_of : List ℕ → ℕ → ℕ
 end_of text i = i + leading (λ c. not (eqb newline c)) (drop i text)
 
 -- the first line; an empty text has an empty one
-abbrev pub first_in : List ℕ → Head
+abbrev pub first_in : List ℕ → Option Head
 first_in text = head_in (get_or (lines_of text) 0 [])
 
 -- the lines after it
 abbrev pub word_lines_in : List ℕ → List (List ℕ)
 word_lines_in text = drop 1 (lines_of text)
 
-abbrev pub version_by : Head → ℕ
-version_by (Declared version registers) = version
-version_by NoHead = 0
+abbrev pub version_by : Option Head → ℕ
+version_by (Some head) = head.version
+version_by None = 0
 
-abbrev pub registers_by : Head → ℕ
-registers_by (Declared version registers) = registers
-registers_by NoHead = 0
+abbrev pub registers_by : Option Head → ℕ
+registers_by (Some head) = head.registers
+registers_by None = 0
 
 -- ---- reasons
 -- the first line: 15; 4, 5
-abbrev pub head_rows : Head → List Row
-head_rows NoHead = (true gives Text at 0) ∷ []
-head_rows (Declared version registers) =
-    (differ version 1 gives Version at 0) ∷ ((eqb registers 0 || ltb 64 registers) gives Header at 0) ∷ []
+abbrev pub head_rows : Option Head → List Row
+head_rows None = (true gives Text at 0) ∷ []
+head_rows (Some head) =
+    (differ head.version 1 gives Version at 0) ∷ ((eqb head.registers 0 || ltb 64 head.registers) gives Header at 0) ∷ []
 
 -- line k, a word's, of a sheet of n registers: 15; 2, 17, 9
-abbrev pub line_rows : ℕ → ℕ → Line → List Row
-line_rows n k Outside = (true gives Text at k) ∷ []
-line_rows n k (Read w) =
+abbrev pub line_rows : ℕ → ℕ → Option Word → List Row
+line_rows n k None = (true gives Text at k) ∷ []
+line_rows n k (Some w) =
     (too_large w gives Inputs at k)
     ∷ (left_idle w gives Idle at k)
     ∷ (some (leb n) (register_fields w) gives Register at k)
@@ -72,9 +69,9 @@ header4 version count registers = version * 2 ^ 28 + count * 2 ^ 16 + registers 
 abbrev pub split4 : ℕ → List ℕ
 split4 h = h / 2 ^ 24 % 256 ∷ h / 2 ^ 16 % 256 ∷ h / 2 ^ 8 % 256 ∷ h % 256 ∷ []
 
-abbrev pub word_by : Line → Word
-word_by (Read w) = w
-word_by Outside = blank
+abbrev pub word_by : Option Word → Word
+word_by (Some w) = w
+word_by None = blank
 
 -- its words, six bytes each
 abbrev pub packed_line : List ℕ → List ℕ

@@ -6,11 +6,11 @@ ghost use Rattle.text.specs.Fill.{Added};
 ghost use Rattle.reasons.specs.Reasons.{first_of, check_numbers};
 ghost use Rattle.reasons.specs.Output.{wrote};
 ghost use Rattle.packing.specs.Packing.{InRange};
-ghost use Rattle.grammar.specs.Grammar.{lines_of, word_in};
+ghost use Rattle.grammar.specs.Grammar.{lines_of, head_by, word_in};
 ghost use Rattle.reading.specs.Reader.{end_of, head_rows, line_rows, lines_rows, header4, split4, word_by, packed_line, packed_lines, read_rows, read_of, AllFit};
 
 use chip::Word;
-use grammar::{Head, Line};
+use grammar::Head;
 use reasons::{Check, Output, Reason};
 
 // The most words that a sheet can have.
@@ -48,7 +48,7 @@ fn next_line(text: &[u8], end: usize) -> usize
 
 // Reasons 4 and 5 of the first line.
 fn check_first(version: u32, registers: u32) -> Check
-    ensures { result ≡ first_of (head_rows (Head.Declared version registers)) }
+    ensures { result ≡ first_of (head_rows (Some (head_by version registers))) }
 {
     if version != 1 {
         return Check::Bad {
@@ -69,8 +69,7 @@ fn check_first(version: u32, registers: u32) -> Check
 fn check_line(line: &[u8], n: u32, k: usize) -> Check
     ensures { result ≡ first_of (line_rows n k (word_in line.now)) }
 {
-    let read = grammar::read_word(line);
-    let Line::Read(w) = read else {
+    let Some(w) = grammar::read_word(line) else {
         return Check::Bad {
             reason: Reason::Text,
             place: k,
@@ -150,11 +149,7 @@ fn header(version: u32, words: u32, registers: u32) -> [u8; 4]
 fn word_of(line: &[u8]) -> Word
     ensures { result ≡ word_by (word_in line.now) }
 {
-    let read = grammar::read_word(line);
-    match read {
-        Line::Read(w) => w,
-        Line::Outside => packing::fields(0),
-    }
+    grammar::read_word(line).unwrap_or_else(|| packing::fields(0))
 }
 
 // The six bytes of a line's word into a sheet at a place; where the sheet goes on.
@@ -208,7 +203,7 @@ pub fn read(text: &[u8], sheet: &mut [u8]) -> Output
 {
     let end = line_end(text, 0);
     let head = grammar::read_first(&text[..end]);
-    let Head::Declared { version, registers } = head else {
+    let Some(Head { version, registers }) = head else {
         return reasons::nothing_written(Reason::Text, 0);
     };
     let first = check_first(version, registers);

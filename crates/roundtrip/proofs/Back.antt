@@ -18,23 +18,20 @@ use Rattle.mnemonics.proofs.Mnemonics.{below, at_each, at-page, at_mnemonic, no_
 use Rattle.mnemonics.proofs.Columns.{mnemonic_short}
 use Rattle.packing.specs.Packing.{some, InRange}
 use Rattle.listing.specs.Lines.{numbers_of, named, switches_of, word_line, first_line}
-use Rattle.grammar.specs.declared.Found.{Found}
-use Rattle.grammar.specs.declared.Found.TheVariants.{Number, Nothing}
-use Rattle.grammar.specs.declared.Line.TheVariants.{Read}
-use Rattle.grammar.specs.declared.Head.TheVariants.{Declared}
-use Rattle.grammar.specs.Grammar.{capital, parts_of, filled, number_in, starts_with, labelled, opcode_of, offered, head_of, line_of, head_in, word_in}
+use Rattle.std.specs.Prelude.{Option, Some, None}
+use Rattle.grammar.specs.Grammar.{capital, parts_of, filled, number_in, starts_with, labelled, opcode_of, offered, head_by, head_of, line_of, head_in, word_in}
 use Rattle.roundtrip.proofs.Pieces.{none-append, map-append, gap, Parts, part, blanks, spaced, parts_back}
 use Rattle.roundtrip.proofs.Pieces.Parts.{none, more}
 
 -- ---- numbers: what holds of so few is computed at each
 -- what was found is the number n
-abbrev is_number : ℕ → Found → Bool
-is_number n (Number m) = eqb m n
-is_number n Nothing = false
+abbrev is_number : ℕ → Option ℕ → Bool
+is_number n (Some m) = eqb m n
+is_number n None = false
 
-is_number_lem : (n : ℕ) (f : Found) → is_number n f ≡ true → f ≡ Number n
-is_number_lem n (Number m) h = ap Number (eqb-true m n h)
-is_number_lem n Nothing h = absurd (true≢false (sym h))
+is_number_lem : (n : ℕ) (f : Option ℕ) → is_number n f ≡ true → f ≡ Some n
+is_number_lem n (Some m) h = ap Some (eqb-true m n h)
+is_number_lem n None h = absurd (true≢false (sym h))
 
 -- k digits say their number again
 abbrev digits_say : ℕ → ℕ → Bool
@@ -91,7 +88,7 @@ module _ (name : List ℕ) (k n : ℕ) where
   field-gap h = none-append gap name (decimal_of k n) h (decimal-gap k n)
 
   -- it is read back, of as many numbers as the digits say again
-  field_back : (m : ℕ) → below (digits_say k) m ≡ true → n < m → labelled (map capital name) (map capital field) ≡ Number n
+  field_back : (m : ℕ) → below (digits_say k) m ≡ true → n < m → labelled (map capital name) (map capital field) ≡ Some n
   unfolding labelled
   field_back m t h =
       rw (
@@ -122,7 +119,7 @@ all_found : below (λ n. lacks_page n || is_number n (opcode_of (mnemonic_of n))
 unfolding lacks_page opcode_of
 all_found = refl
 
-pub opcode_back : (n : ℕ) → lacks_page n ≡ false → opcode_of (mnemonic_of n) ≡ Number n
+pub opcode_back : (n : ℕ) → lacks_page n ≡ false → opcode_of (mnemonic_of n) ≡ Some n
 opcode_back n p = is_number_lem n (opcode_of (mnemonic_of n)) (at-page (λ n. is_number n (opcode_of (mnemonic_of n))) all_found n p)
 
 -- in its column it is the first part
@@ -274,7 +271,7 @@ module _ (w : Word) where
       append_assoc m (numbers_of w) (switches_of w) ∙ ap (λ (r : List ℕ). m ++ (numbers_of w ++ r)) (switches_text w)
 
   -- what they say, in capitals
-  line_said : InRange w → lacks_page w.opcode ≡ false → line_of (mnemonic_of w.opcode ∷ map (map capital) (code ∷ others)) ≡ Read w
+  line_said : InRange w → lacks_page w.opcode ≡ false → line_of (mnemonic_of w.opcode ∷ map (map capital) (code ∷ others)) ≡ Some w
   unfolding line_of
   line_said r p =
       rw (
@@ -297,7 +294,7 @@ module _ (w : Word) where
       later k = drop k (capitals (switches w))
 
 -- Reading the line of a word gives the word.
-pub word_back : (w : Word) → InRange w → lacks_page w.opcode ≡ false → word_in (word_line w) ≡ Read w
+pub word_back : (w : Word) → InRange w → lacks_page w.opcode ≡ false → word_in (word_line w) ≡ Some w
 word_back w r p =
     ap word_in (line_text w)
     ∙ ap line_of
@@ -321,7 +318,7 @@ module _ (v n : ℕ) where
   head_text = refl
 
   -- Reading the first line gives its two numbers.
-  pub head_back : v < 10 → n < 100 → head_in (first_line v n) ≡ Declared v n
+  pub head_back : v < 10 → n < 100 → head_in (first_line v n) ≡ Some (head_by v n)
   unfolding head_of
   head_back h k =
       ap head_in head_text

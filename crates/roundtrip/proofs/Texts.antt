@@ -22,11 +22,9 @@ use Rattle.sheet.proofs.Table.{ready_alone}
 use Rattle.sheet.proofs.Positions.{All, all_words_lem, words-length}
 use Rattle.sheet.proofs.Positions.All.{none as allNone, more as allMore}
 use Rattle.listing.specs.Lines.{word_line, listing_of}
-use Rattle.grammar.specs.declared.Line.{Line}
-use Rattle.grammar.specs.declared.Line.TheVariants.{Read, Outside}
 use Rattle.grammar.specs.declared.Head.{Head}
-use Rattle.grammar.specs.declared.Head.TheVariants.{Declared, Outside as NoHead}
-use Rattle.grammar.specs.Grammar.{head_in, word_in}
+use Rattle.std.specs.Prelude.{Option, Some, None as Outside}
+use Rattle.grammar.specs.Grammar.{head_by, head_in, word_in}
 use Rattle.reading.specs.Reader.{first_in, word_lines_in, registers_by, head_rows, line_rows, lines_rows, size_rows, read_rows, word_by, packed_lines, sheet_in}
 use Rattle.roundtrip.proofs.Back.{word_back, head_back}
 use Rattle.grammar.proofs.Pages.{word-page}
@@ -36,7 +34,7 @@ use Rattle.roundtrip.proofs.Sheets.{packed_all, sheet_for, registers-below, fiel
 -- ---- lines that each say a word, which can be run on n registers
 pub data Said (n : ℕ) : List (List ℕ) → List Word → Type 0 where
   no_line : Said n [] []
-  line : {l : List ℕ} {w : Word} {ls : List (List ℕ)} {ws : List Word} → word_in l ≡ Read w → WordReady n w → Said n ls ws
+  line : {l : List ℕ} {w : Word} {ls : List (List ℕ)} {ws : List Word} → word_in l ≡ Some w → WordReady n w → Said n ls ws
       → Said n (l ∷ ls) (w ∷ ws)
 
 -- the words that lines say
@@ -50,7 +48,7 @@ module _ (n : ℕ) where
   said_ready (line e h s) = allMore h (said_ready s)
 
   -- line for line
-  pub said_lines : {ls : List (List ℕ)} {ws : List Word} → Said n ls ws → map word_in ls ≡ map Read ws
+  pub said_lines : {ls : List (List ℕ)} {ws : List Word} → Said n ls ws → map word_in ls ≡ map Some ws
   said_lines no_line = refl
   said_lines (line e h s) = λ i. e i ∷ said_lines s i
 
@@ -73,7 +71,7 @@ module _ (n : ℕ) where
       rw e (more (fields_small w h.range) (more h.not_idle (more (registers-below n w h) (said_rows (k + 1) s))))
 
   -- and a line that is not refused says a word that can be run
-  word_ready : (l : List ℕ) (w : Word) (k : ℕ) → word_in l ≡ Read w → None (line_rows n k (Read w)) → WordReady n w
+  word_ready : (l : List ℕ) (w : Word) (k : ℕ) → word_in l ≡ Some w → None (line_rows n k (Some w)) → WordReady n w
   word_ready l w k e (more h₁ (more h₂ (more h₃ none))) = go (every (leb n) (register_fields w) h₃)
     where
       go : Every (leb n) (register_fields w) → WordReady n w
@@ -95,9 +93,9 @@ module _ (n : ℕ) where
       go (word_in l) refl (none_left (line_rows n k (word_in l)) (lines_rows n (k + 1) ls) h)
       (rows_said (k + 1) ls (none_right (line_rows n k (word_in l)) (lines_rows n (k + 1) ls) h))
     where
-      go : (x : Line) → word_in l ≡ x → None (line_rows n k x) → Said n ls (words_by ls)
+      go : (x : Option Word) → word_in l ≡ x → None (line_rows n k x) → Said n ls (words_by ls)
           → Said n (l ∷ ls) (words_by (l ∷ ls))
-      go (Read w) e r s = rw e (line e (word_ready l w k e r) s)
+      go (Some w) e r s = rw e (line e (word_ready l w k e r) s)
       go Outside e (more r t) s = absurd (true≢false r)
 
   -- the line of a word that can be run says it
@@ -107,7 +105,7 @@ module _ (n : ℕ) where
 
 -- ---- a text that says a register count and words
 pub record Says (text : List ℕ) (n : ℕ) (ws : List Word) : Type 0 where
-  pub first : first_in text ≡ Declared 1 n
+  pub first : first_in text ≡ Some (head_by 1 n)
   pub lines : Said n (word_lines_in text) ws
   pub positive : 0 < n
   pub small : n ≤ 64
@@ -127,7 +125,7 @@ module _ {text : List ℕ} {n : ℕ} {ws : List Word} (h : Says text n ws) where
   unfolding read_rows
   says_good room l =
       rw (h.first, said_length n h.lines)
-      (none_good (head_rows (Declared 1 n) ++ (lines_rows n 1 (word_lines_in text) ++ size_rows (length ws) room))
+      (none_good (head_rows (Some (head_by 1 n)) ++ (lines_rows n 1 (word_lines_in text) ++ size_rows (length ws) room))
       (more refl
       (more (rw (ne_eqb n 0 (omega arith), le-ltb 64 n h.small) refl)
       (none_both (lines_rows n 1 (word_lines_in text)) (size_rows (length ws) room) (said_rows n 1 h.lines)
@@ -148,16 +146,16 @@ good_says text room e = go (first_in text) refl (good_none (read_rows text room)
     positive : (n : ℕ) → (n ≡ 0 → ⊥) → 0 < n
     positive n h = omega arith
 
-    go : (x : Head) → first_in text ≡ x → None (head_rows x ++ (lines_rows (registers_by x) 1 ls ++ size_rows (length ls) room))
+    go : (x : Option Head) → first_in text ≡ x → None (head_rows x ++ (lines_rows (registers_by x) 1 ls ++ size_rows (length ls) room))
         → Says text (registers_by x) (words_by ls)
-    go NoHead f (more h t) = absurd (true≢false h)
-    go (Declared v n) f (more h₁ (more h₂ t)) =
+    go Outside f (more h t) = absurd (true≢false h)
+    go (Some head) f (more h₁ (more h₂ t)) =
         record {
-          first = f ∙ ap (λ (x : ℕ). Declared x n) (eqb-true v 1 (not-false _ h₁));
-          lines = rows_said n 1 ls (none_left (lines_rows n 1 ls) (size_rows (length ls) room) t);
-          positive = positive n (eqb-false n 0 (or_left (eqb n 0) (ltb 64 n) h₂));
-          small = ltb-false 64 n (or_right (eqb n 0) (ltb 64 n) h₂);
-          few = few (none_right (lines_rows n 1 ls) (size_rows (length ls) room) t);
+          first = f ∙ ap (λ (x : ℕ). Some (head_by x head.registers)) (eqb-true head.version 1 (not-false _ h₁));
+          lines = rows_said head.registers 1 ls (none_left (lines_rows head.registers 1 ls) (size_rows (length ls) room) t);
+          positive = positive head.registers (eqb-false head.registers 0 (or_left (eqb head.registers 0) (ltb 64 head.registers) h₂));
+          small = ltb-false 64 head.registers (or_right (eqb head.registers 0) (ltb 64 head.registers) h₂);
+          few = few (none_right (lines_rows head.registers 1 ls) (size_rows (length ls) room) t);
         }
 
 -- the listing of a sheet that passed says those of the sheet
@@ -173,7 +171,7 @@ listing_says s e =
       first =
           ap (λ (ls : List (List ℕ)). head_in (get_or ls 0 [])) (lines_back s)
           ∙ head_back v n (omega arith) (omega arith)
-          ∙ ap (λ (x : ℕ). Declared x n) one;
+          ∙ ap (λ (x : ℕ). Some (head_by x n)) one;
       lines = rw (lines_back s) (ready_said n (all_words_lem (WordReady n) s 0 (words_of s) (λ j lo hi. r.word j (omega arith))));
       positive = p.positive;
       small = p.small;

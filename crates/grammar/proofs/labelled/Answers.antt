@@ -7,8 +7,12 @@ pub returns-then-not-starts_with : goal.returns-then-not-starts_with
 returns-then-not-starts_with c = let a = c.args in
     labelled-not a.name.now a.part.now (sym c.starts_with.ensures ∙ c.if-not-starts_with.true)
 
-pub number-requires : goal.number-requires
-number-requires c = let a = c.args in
+pub slice_bounds-number-count : goal.slice_bounds-number-count
+slice_bounds-number-count c = let a = c.args in
+    labelled-room a.name.now a.part.now (sym c.starts_with.ensures ∙ c.if-not-starts_with.false)
+
+pub slice_bounds-number-start : goal.slice_bounds-number-start
+slice_bounds-number-start c = let a = c.args in
     labelled-room a.name.now a.part.now (sym c.starts_with.ensures ∙ c.if-not-starts_with.false)
 
 pub returns : goal.returns

@@ -1,34 +1,23 @@
--- The part is none of the mnemonics passed so far (`Looking`). The measure is the mnemonics left.
-use mathlib.Core.Path.{sym, ap, ◌∙◌}
-use mathlib.Core.List.{map}
+-- The place of the first column whose name the part is.
+use Rattle.std.proofs.Common.{◌≡◌, sym, ◌∙◌, map, rules, tests}
+use Rattle.std.proofs.lemmas.Iterator.{YieldsList-from_slice}
+use Rattle.std.proofs.lemmas.Iterator.Search.{position_from_yields_List}
+use borrow.Author.Tests.{eqb-true, eqb-false}
 use Rattle.text.specs.Ascii.{same}
+use Rattle.mnemonics.specs.Mnemonics.{columns}
 use Rattle.grammar.specs.Grammar.{capital}
-use Rattle.grammar.proofs.Mnemonics.{mnemonic_in, column-count, no_part, looking-start, looking-more, looking_here, looking_done}
+use Rattle.grammar.specs.Scan.{name_in}
+use Rattle.grammar.proofs.Mnemonics.{no_part, opcode_found}
 use Rattle.grammar.proofs.opcode.Goals as goal
 
-pub returns-then-part-eq0 : goal.returns-then-part-eq0
-returns-then-part-eq0 c = sym (no_part c.args.part.now c.if-part-eq0.true)
-
-pub loop-k-init : goal.loop-k-init
-loop-k-init c = looking-start c.args.part.now c.if-part-eq0.false
-
-pub slice_bounds-is_mnemonic-end : goal.slice_bounds-is_mnemonic-end
-slice_bounds-is_mnemonic-end c = let t = c in
-    sym (column-count t.loop-k.k t.table-columns.ensures t.loop-k-test.true)
-
-pub returns-then-is_mnemonic : goal.returns-then-is_mnemonic
-returns-then-is_mnemonic c = let t = c in
-    let l = t.loop-k in
-    let p = map capital t.args.part.now in
-    sym (looking_here l.invariant t.loop-k-test.true
-    (sym (c.is_mnemonic.ensures ∙ ap (same p) (mnemonic_in l.k t.table-columns.ensures t.loop-k-test.true)) ∙ c.if-is_mnemonic.true))
-
-pub loop-k-preserved : goal.loop-k-preserved
-loop-k-preserved c = let t = c in
-    let l = t.loop-k in
-    let p = map capital t.args.part.now in
-    looking-more l.invariant t.loop-k-test.true
-    (sym (c.is_mnemonic.ensures ∙ ap (same p) (mnemonic_in l.k t.table-columns.ensures t.loop-k-test.true)) ∙ c.if-is_mnemonic.false)
+pub returns-then-is_empty : goal.returns-then-is_empty
+returns-then-is_empty c = sym (no_part c.args.part.now (eqb-true _ 0 (sym c.is_empty.ensures ∙ c.if-is_empty.true)))
 
 pub returns : goal.returns
-returns c = sym (looking_done c.loop-k.invariant c.loop-k-test.false)
+returns c =
+    let part = c.args.part.now in
+    let kept : c.map.result ≡ c.position.result = search rules in
+    let found =
+    position_from_yields_List (λ column. same (map capital part) (name_in column)) _ _ c.position.result c.position.ensures.ran
+    (YieldsList-from_slice columns cc) (λ x b q k. search (rules, tests)) in
+    kept ∙ found ∙ opcode_found part (eqb-false _ 0 (sym c.is_empty.ensures ∙ c.if-is_empty.false))

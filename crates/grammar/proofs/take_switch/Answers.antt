@@ -14,11 +14,5 @@ returns c = let n = c in
     let a = n.args in
     switch_part a.line.now a.at n.next-part.ensures a.name.now (sym c.is_name.ensures ∙ c.if-is_name.false)
 
-pub slice_bounds-is_name-count : goal.slice_bounds-is_name-count
-slice_bounds-is_name-count c = (part_within c.args.line.now c.args.at c.requires c.next-part.ensures).0
-
-pub slice_bounds-is_name-start : goal.slice_bounds-is_name-start
-slice_bounds-is_name-start c = (part_within c.args.line.now c.args.at c.requires c.next-part.ensures).0
-
 pub slice_bounds-is_name-end : goal.slice_bounds-is_name-end
 slice_bounds-is_name-end c = (part_within c.args.line.now c.args.at c.requires c.next-part.ensures).1

@@ -28,7 +28,7 @@ returns-in-Bad c =
     let a = e.args in
     read-refused a.text.now a.sheet.now c.nothing_written-in-Bad.ensures
     (at_first a.text.now (length a.sheet.now)
-    (first_read a.text.now e.line_end-end.ensures h.read_first-head.ensures c.in-Declared.is)
+    (first_read a.text.now e.line_end-end.ensures h.read_first-head.ensures c.in-Some.is)
     (sym c.check_first-first.ensures ∙ c.in-Bad.is)) in
     record { sheet_after = p.0; numbers = p.1 }
 
@@ -39,7 +39,7 @@ pub returns-in-Bad-lines : goal.returns-in-Bad-lines
 returns-in-Bad-lines c =
     let p = let o = c in
     let a = o.args in
-    let b = begun o.line_end-end.ensures o.read_first-head.ensures c.in-Declared.is o.check_first-first.ensures c.in_default-first.is o.next_line-from.ensures in
+    let b = begun o.line_end-end.ensures o.read_first-head.ensures c.in-Some.is o.check_first-first.ensures c.in_default-first.is o.next_line-from.ensures in
     read-refused a.text.now a.sheet.now c.nothing_written-in-Bad-lines.ensures
     (at-line a.text.now (length a.sheet.now) b.head b.good b.lines (sym c.check_lines-lines.ensures ∙ c.in-Bad-lines.is)) in
     record { sheet_after = p.0; numbers = p.1 }
@@ -49,7 +49,7 @@ returns-then-words-gt-WORDS c =
     let p = let l = c in
     let o = l in
     let a = o.args in
-    let b = begun o.line_end-end.ensures o.read_first-head.ensures c.in-Declared.is o.check_first-first.ensures c.in_default-first.is o.next_line-from.ensures in
+    let b = begun o.line_end-end.ensures o.read_first-head.ensures c.in-Some.is o.check_first-first.ensures c.in_default-first.is o.next_line-from.ensures in
     read_count a.text.now a.sheet.now (counted b l.check_lines-lines.ensures c.in_default-lines.is l.count_lines-words.ensures)
     c.nothing_written-then-words-gt-WORDS.ensures c.if-words-gt-WORDS.true in
     record { sheet_after = p.0; numbers = p.1 }
@@ -59,7 +59,7 @@ returns-then-sheet-words c =
     let p = let l = c in
     let o = l in
     let a = o.args in
-    let b = begun o.line_end-end.ensures o.read_first-head.ensures c.in-Declared.is o.check_first-first.ensures c.in_default-first.is o.next_line-from.ensures in
+    let b = begun o.line_end-end.ensures o.read_first-head.ensures c.in-Some.is o.check_first-first.ensures c.in_default-first.is o.next_line-from.ensures in
     read-room a.text.now a.sheet.now (counted b l.check_lines-lines.ensures c.in_default-lines.is l.count_lines-words.ensures)
     c.nothing_written-then-sheet-words.ensures c.if-words-gt-WORDS.false c.if-sheet-words.true in
     record { sheet_after = p.0; numbers = p.1 }
@@ -67,7 +67,7 @@ returns-then-sheet-words c =
 pub put_sheet-requires : goal.put_sheet-requires
 put_sheet-requires c = let l = c in
     let o = l in
-    let b = begun o.line_end-end.ensures o.read_first-head.ensures c.in-Declared.is o.check_first-first.ensures c.in_default-first.is o.next_line-from.ensures in
+    let b = begun o.line_end-end.ensures o.read_first-head.ensures c.in-Some.is o.check_first-first.ensures c.in_default-first.is o.next_line-from.ensures in
     let p =
     put_ready (counted b l.check_lines-lines.ensures c.in_default-lines.is l.count_lines-words.ensures)
     c.if-words-gt-WORDS.false c.if-sheet-words.false in
@@ -78,7 +78,7 @@ returns c =
     let p = let l = c in
     let o = l in
     let a = o.args in
-    let b = begun o.line_end-end.ensures o.read_first-head.ensures c.in-Declared.is o.check_first-first.ensures c.in_default-first.is o.next_line-from.ensures in
+    let b = begun o.line_end-end.ensures o.read_first-head.ensures c.in-Some.is o.check_first-first.ensures c.in_default-first.is o.next_line-from.ensures in
     read_done a.text.now a.sheet.now (counted b l.check_lines-lines.ensures c.in_default-lines.is l.count_lines-words.ensures)
     c.if-words-gt-WORDS.false c.if-sheet-words.false c.put_sheet.ensures in
     record { sheet_after = p.0; numbers = p.1 }
