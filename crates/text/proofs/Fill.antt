@@ -1,39 +1,11 @@
--- A line copied into a lent text byte by byte, lines one after another, and texts at its start.
+-- Lines one after another in a lent text, and texts at its start.
 use mathlib.Core.Path.{◌≡◌, refl, ap, ap₂, sym, subst, ◌∙◌}
 use mathlib.Core.List.{List, [], ◌++◌, append_assoc, append-nil}
-use Prim.Native.Nat.{ℕ, suc, ◌+◌, ◌≤◌, ◌<◌}
+use Prim.Native.Nat.{ℕ, ◌+◌, ◌≤◌}
 use native.Mathlib.Omega.{arith}
-use native.Mathlib.Numerals.{add-one}
-use lib.ListN.{length, get_or, set, take, drop, length-append, length-set, length-take, take-append-drop}
-use lib.Seq.{take_at, drop_at, drop-drop, take-length, paste, paste-zero, paste-suc}
+use lib.ListN.{length, take, drop, length-append, length-take, take-append-drop}
+use lib.Seq.{take_at, drop_at, drop-drop}
 use Rattle.text.specs.Fill.{Put, Added, Written}
-
--- ---- a line copied byte by byte
-pub record Copying (line before : List ℕ) (at : ℕ) (text : List ℕ) (k : ℕ) : Type 0 where
-  pub upto : k ≤ length line
-  pub size : length text ≡ length before
-  pub bytes : text ≡ paste before at line k
-
-pub copying_start : (line before : List ℕ) (at : ℕ) → Copying line before at before 0
-copying_start line before at = record { upto = omega arith; size = refl; bytes = paste-zero before at line }
-
-module _ {line before : List ℕ} {at : ℕ} {text : List ℕ} {k : ℕ} (c : Copying line before at text k) where
-  pub copying_more : k < length line → at + length line ≤ length before → Copying line before at (set text (at + k) (get_or line k 0)) (k + 1)
-  copying_more h r =
-      let e : set (paste before at line k) (at + k) (get_or line k 0) ≡ paste before at line (suc k) = paste-suc before at line k 0 (omega arith) h in
-      record {
-        upto = omega arith;
-        size = length-set text (at + k) (get_or line k 0) ∙ c.size;
-        bytes = ap (λ (t : List ℕ). set t (at + k) (get_or line k 0)) c.bytes ∙ e ∙ ap (paste before at line) (sym (add-one k));
-      }
-
-  copying_done : length line ≤ k → Put line at before text
-  copying_done h =
-      let e : k ≡ length line = omega (arith, c.upto) in
-      record { bytes = c.bytes ∙ ap (paste before at line) e ∙ ap (λ (l : List ℕ). take at before ++ l ++ drop (at + length line) before) (take-length line) }
-
-  pub copying_added : length line ≤ k → Added line at before (at + k) text
-  copying_added h = record { ends = omega (arith, c.upto); put = copying_done h }
 
 -- ---- a line into a text that starts with another: the text goes on with it
 pub put_on : (front line before middle after : List ℕ) (at : ℕ) → length front ≡ at → middle ≡ front ++ drop at before → Put line at middle after

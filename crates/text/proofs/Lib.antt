@@ -1,3 +1,4 @@
 -- These proofs assume nothing.
 pub mod Fill
 pub mod Same
+pub mod Lowest

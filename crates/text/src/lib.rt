@@ -2,10 +2,11 @@
 #![tactic(auto)]
 
 ghost use Rattle.std.specs.Prelude.{◌≡◌, ◌+◌, ◌≤◌, ◌<◌, length};
-ghost use Rattle.text.specs.Text.{digit_of, hex_of, decimal_of, binary_of};
+ghost use Rattle.text.specs.Text.{digit_of, digits_of, hex_of, decimal_of, binary_of};
 ghost use Rattle.text.specs.Fill.{Added};
 
 // The byte of one hex digit.
+#[tactic(auto, unfolding(crate::specs::Text::digit_of))]
 pub fn digit(d: u32) -> u8
     requires { d < 16 }
     ensures { result ≡ digit_of d }
@@ -16,73 +17,47 @@ pub fn digit(d: u32) -> u8
     55 + d as u8
 }
 
-pub fn hex2(x: u32) -> [u8; 2]
-    ensures { result ≡ hex_of 2 x }
+// The low digits of a number to a base, highest first.
+fn digits<const BASE: u64, const N: usize>(x: u64) -> [u8; N]
+    requires { (2 ≤ BASE) × (BASE ≤ 16) }
+    ensures { result ≡ digits_of BASE N x }
 {
-    [digit(x / 16 % 16), digit(x / 1 % 16)]
+    let mut out = [b'0'; N];
+    let mut left = x;
+    for i in (0..N).rev() {
+        out[i] = digit((left % BASE) as u32);
+        left /= BASE;
+    }
+    out
 }
 
-pub fn hex4(x: u32) -> [u8; 4]
-    ensures { result ≡ hex_of 4 x }
+// The low digits of a number in hex, in decimal and in binary.
+pub fn hex<const N: usize>(x: u64) -> [u8; N]
+    ensures { result ≡ hex_of N x }
 {
-    [
-        digit(x / 4096 % 16),
-        digit(x / 256 % 16),
-        digit(x / 16 % 16),
-        digit(x / 1 % 16),
-    ]
+    digits::<16, N>(x)
 }
 
-pub fn hex8(x: u32) -> [u8; 8]
-    ensures { result ≡ hex_of 8 x }
+pub fn decimal<const N: usize>(x: u64) -> [u8; N]
+    ensures { result ≡ decimal_of N x }
 {
-    [
-        digit(x / 268435456 % 16),
-        digit(x / 16777216 % 16),
-        digit(x / 1048576 % 16),
-        digit(x / 65536 % 16),
-        digit(x / 4096 % 16),
-        digit(x / 256 % 16),
-        digit(x / 16 % 16),
-        digit(x / 1 % 16),
-    ]
+    digits::<10, N>(x)
 }
 
-// One decimal digit, and two: the low ones of a number.
-pub fn decimal1(x: u32) -> [u8; 1]
-    ensures { result ≡ decimal_of 1 x }
+pub fn binary<const N: usize>(x: u64) -> [u8; N]
+    ensures { result ≡ binary_of N x }
 {
-    [digit(x / 1 % 10)]
-}
-
-pub fn decimal2(x: u32) -> [u8; 2]
-    ensures { result ≡ decimal_of 2 x }
-{
-    [digit(x / 10 % 10), digit(x / 1 % 10)]
-}
-
-// The low five binary digits of a number.
-pub fn binary5(x: u32) -> [u8; 5]
-    ensures { result ≡ binary_of 5 x }
-{
-    [
-        digit(x / 16 % 2),
-        digit(x / 8 % 2),
-        digit(x / 4 % 2),
-        digit(x / 2 % 2),
-        digit(x / 1 % 2),
-    ]
+    digits::<2, N>(x)
 }
 
 // A line into a text at a place; where it ends.
+// Kept: a loop and not `copy_from_slice`, which calls C's memmove; the library may call memset only.
 pub fn put(line: &[u8], text: &mut [u8], at: usize) -> usize
     requires { at + length line.now ≤ length text.old }
     ensures { Added line.now at text.old result text.new }
 {
-    let mut k: usize = 0;
-    while k < line.len() {
-        text[at + k] = line[k];
-        k += 1;
+    for (k, byte) in line.iter().enumerate() {
+        text[at + k] = *byte;
     }
-    at + k
+    at + line.len()
 }
