@@ -2,7 +2,7 @@
 #![tactic(auto)]
 
 ghost use Rattle.std.specs.Prelude.{◌≡◌, ◌+◌, ◌≤◌, ◌<◌, length};
-ghost use Rattle.reasons.specs.Reasons.{first_of, check_numbers};
+ghost use Rattle.reasons.specs.Reasons.{first_of, check_by, check_numbers};
 ghost use Rattle.packing.specs.Packing.{InRange};
 ghost use Rattle.sheet.specs.Sheet.{declared_of, all_words, Ready};
 ghost use Rattle.text.specs.Fill.{Added, Written};
@@ -11,7 +11,7 @@ ghost use Rattle.reasons.specs.Output.{wrote};
 ghost use Rattle.listing.specs.Lister.{list_rows, list_of};
 
 use chip::Word;
-use reasons::{Check, Output, Reason};
+use reasons::{Reason, Refusal, refuse_if};
 use sheet::Which;
 
 // The bytes of the longest listing: its first line, and 4,095 lines with every switch on.
@@ -28,12 +28,12 @@ const FIRST: usize = 23;
 fn numbers(w: Word) -> [u8; NUMBERS]
     ensures { result ≡ numbers_of w }
 {
-    let code = text::decimal1(w.code);
-    let position = text::decimal2(w.position);
-    let width = text::decimal2(w.width);
-    let a = text::decimal2(w.a);
-    let b = text::decimal2(w.b);
-    let y = text::decimal2(w.y);
+    let code = text::decimal::<1>(w.code as u64);
+    let position = text::decimal::<2>(w.position as u64);
+    let width = text::decimal::<2>(w.width as u64);
+    let a = text::decimal::<2>(w.a as u64);
+    let b = text::decimal::<2>(w.b as u64);
+    let y = text::decimal::<2>(w.y as u64);
     let mut line = *b"code=0 position=00 width=00 A=00 B=00 Y=00";
     line[5] = code[0];
     line[16] = position[0];
@@ -53,8 +53,8 @@ fn numbers(w: Word) -> [u8; NUMBERS]
 fn first_line(version: u32, registers: u32) -> [u8; FIRST]
     ensures { result ≡ ended (first_line version registers) }
 {
-    let v = text::decimal1(version);
-    let n = text::decimal2(registers);
+    let v = text::decimal::<1>(version as u64);
+    let n = text::decimal::<2>(registers as u64);
     let mut line = *b"version=0 registers=00\n";
     line[8] = v[0];
     line[20] = n[0];
@@ -122,10 +122,8 @@ fn size(sheet: &[u8]) -> usize
 {
     let count = sheet::words(sheet);
     let mut bytes: usize = FIRST;
-    let mut k: usize = 0;
-    while k < count {
+    for k in 0..count {
         bytes += line_length(sheet::word_at(sheet, sheet, Which::Main, k));
-        k += 1;
     }
     bytes
 }
@@ -137,10 +135,8 @@ fn put_lines(sheet: &[u8], text: &mut [u8], from: usize) -> usize
 {
     let count = sheet::words(sheet);
     let mut at = from;
-    let mut k: usize = 0;
-    while k < count {
+    for k in 0..count {
         at = put_line(sheet::word_at(sheet, sheet, Which::Main, k), text, at);
-        k += 1;
     }
     at
 }
@@ -158,19 +154,11 @@ fn fill(sheet: &[u8], text: &mut [u8]) -> usize
 // ---- the entry point
 
 // The listing of a sheet at the start of a lent buffer; how many bytes it has. `MOST` bytes always suffice.
-pub fn list(sheet: &[u8], text: &mut [u8]) -> Output
+pub fn list(sheet: &[u8], text: &mut [u8]) -> Result<usize, Refusal>
     ensures text_after { wrote result text.new ≡ list_of sheet.now text.old }
-    ensures numbers { check_numbers result.check ≡ check_numbers (first_of (list_rows sheet.now (length text.old))) }
+    ensures numbers { check_numbers (check_by result) ≡ check_numbers (first_of (list_rows sheet.now (length text.old))) }
 {
-    let check = sheet::check_sheet(sheet);
-    if let Check::Bad { reason, place } = check {
-        return reasons::nothing_written(reason, place);
-    }
-    if text.len() < size(sheet) {
-        return reasons::nothing_written(Reason::Room, 0);
-    }
-    Output {
-        check: Check::Good,
-        bytes: fill(sheet, text),
-    }
+    sheet::check_sheet(sheet)?;
+    refuse_if(text.len() < size(sheet), Reason::Room, 0)?;
+    Ok(fill(sheet, text))
 }

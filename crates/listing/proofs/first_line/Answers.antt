@@ -4,4 +4,4 @@ use Rattle.listing.proofs.first_line.Goals as goal
 
 pub returns : goal.returns
 unfolding first_line
-returns c = rw (c.decimal2-n.ensures, c.decimal1-v.ensures)
+returns c = rw (c.decimal-n.ensures, c.decimal-v.ensures)

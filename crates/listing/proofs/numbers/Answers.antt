@@ -4,6 +4,12 @@ use Rattle.listing.proofs.numbers.Goals as goal
 
 pub returns : goal.returns
 unfolding numbers_of
-returns c = let d = c in
-    let e = d in
-    rw (d.decimal2-y.ensures, d.decimal2-b.ensures, d.decimal2-a.ensures, e.decimal2-width.ensures, e.decimal2-position.ensures, e.decimal1-code.ensures)
+returns c =
+    rw (
+      c.decimal-y.ensures,
+      c.decimal-b.ensures,
+      c.decimal-a.ensures,
+      c.decimal-width.ensures,
+      c.decimal-position.ensures,
+      c.decimal-code.ensures,
+    )
