@@ -1,4 +1,4 @@
--- The lines of a text by places in it: where a line ends, and which lines are left from a place on.
+-- The lines of a text: the first, and those after it.
 use mathlib.Core.Path.{◌≡◌, refl, ap, ap₂, sym, ◌∙◌}
 use mathlib.Core.List.{List, [], ◌∷◌}
 use mathlib.Core.Bool.{Bool, true, false, not}
@@ -6,19 +6,15 @@ use Prim.Native.Nat.{ℕ, suc, ◌+◌, ◌-◌, ◌≤◌, ◌<◌, min}
 use native.Mathlib.Omega.{arith}
 use native.Mathlib.Nat.{min-eq_left, min-eq_right}
 use native.Mathlib.Decide.{dec_le}
-use lib.ListN.{length, get_or, take, drop, length-drop, drop_of_length-le}
-use lib.Seq.{drop-drop, drop-length, take-nil, drop-nil}
+use lib.ListN.{length, take, drop, drop_of_length-le}
+use lib.Seq.{drop-length}
 use lib.Dec.{eqb}
 use Rattle.text.specs.Ascii.{newline}
 use Rattle.grammar.specs.Grammar.{choose, onto, pieces, lines_of}
 use Rattle.grammar.specs.Scan.{leading}
-use Rattle.grammar.proofs.Passing.{place_within}
-use Rattle.reading.specs.Reader.{end_of}
-
--- ---- lines
--- no line feed
-abbrev pub in_line : ℕ → Bool
-in_line c = not (eqb newline c)
+use Rattle.grammar.proofs.Passing.{rest_is, counted, place_within}
+use Rattle.std.specs.List.{take_while}
+use Rattle.reading.specs.Reader.{in_line}
 
 -- a text that is not empty: its first line, and those after it
 first-line : (c : ℕ) (cs : List ℕ)
@@ -52,75 +48,43 @@ drop_within k l = go (dec_le k (length l))
         let b : length l ≤ k = omega arith in
         rw (min-eq_right b) (drop_of_length-le l b ∙ sym (drop-length l))
 
--- ---- from line to line
--- past the end there are none
-pub lines_none : (t : List ℕ) {i : ℕ} → length t ≤ i → lines_of (drop i t) ≡ []
+-- a text that is not empty has a line, which ends within it, and those of what is left
+pub next_line : (t : List ℕ) {end next : ℕ} → 0 < length t → end ≡ leading in_line t → next ≡ min (length t) (end + 1)
+    → lines_of t ≡ take end t ∷ lines_of (drop next t)
+next_line t {end} {next} h e g =
+    let f : suc (leading in_line t) ≡ end + 1 = omega (arith, e) in
+    let m : min (suc (leading in_line t)) (length t) ≡ next = omega (arith, e, g) in
+    some-line t h ∙ ap₂ (λ (k : ℕ) (l : List ℕ). take k t ∷ lines_of l) (sym e) (drop_within (suc (leading in_line t)) t ∙ ap (λ (k : ℕ). drop k t) m)
+
+-- ---- as the code finds them
+-- std's count of the bytes before the line feed is the definition's
+pub line_counted : (t : List ℕ) {n : ℕ} → n ≡ length (take_while in_line t) → n ≡ leading in_line t
+line_counted t {n} e =
+    let h : 0 + n ≡ 0 + leading in_line t = counted in_line t 0 (e ∙ ap (λ (l : List ℕ). length (take_while in_line l)) (sym (rest_is 0 t))) in
+    omega (arith, h)
+
+-- the line ends within its text
+pub line_within : (t : List ℕ) {end : ℕ} → end ≡ leading in_line t → end ≤ length t
+line_within t e = omega (arith, e, place_within in_line t 0 (omega arith))
+
+-- an empty text has no line
+pub no_line : (t : List ℕ) → length t ≡ 0 → lines_of t ≡ []
 unfolding pieces
-lines_none t h = rw (drop_of_length-le t h) refl
+no_line [] h = refl
+no_line (c ∷ cs) h = absurd (omega arith)
 
--- a line ends no sooner than it starts, and within its text
-pub record Ends (t : List ℕ) (i end : ℕ) : Type 0 where
-  pub starts : i ≤ end
-  pub within : end ≤ length t
+-- what is left after the first line, as the code lends it
+pub line_taken : (t : List ℕ) {end next : ℕ} → (length t ≡ 0 → ⊥) → end ≡ leading in_line t → next ≡ min (length t) (end + 1)
+    → lines_of t ≡ take end t ∷ lines_of (take (length t - next) (drop next t))
+line_taken t {end} {next} h e g = next_line t (omega arith) e g ∙ ap (λ (l : List ℕ). take end t ∷ lines_of l) (sym (rest_is next t))
 
-pub line_ends : (t : List ℕ) {i end : ℕ} → i ≤ length t → end ≡ end_of t i → Ends t i end
-line_ends t {i} h e = record { starts = omega arith; within = omega (arith, place_within in_line t i h) }
-
--- one line further, from where it starts to where the next one does: the lines left are it and those left after it
-pub record Step (t : List ℕ) (i end next : ℕ) : Type 0 where
-  pub further : i < next
-  pub within : next ≤ length t
-  pub lines : lines_of (drop i t) ≡ take (end - i) (drop i t) ∷ lines_of (drop next t)
-
-pub step : {t : List ℕ} {i end next : ℕ} → i < length t → end ≡ end_of t i → next ≡ min (end + 1) (length t) → Step t i end next
-step {t} {i} {end} {next} h e g = record { further = omega arith; within = omega arith; lines = lines }
+-- no more lines than bytes
+pub lines_few : (t : List ℕ) → length (lines_of t) ≤ length t
+unfolding pieces
+lines_few [] = omega arith
+lines_few (c ∷ cs) = go (eqb newline c) (lines_of cs) (lines_few cs)
   where
-    n : ℕ
-    n = leading in_line (drop i t)
-
-    past : drop (suc n) (drop i t) ≡ drop next t
-    past =
-        let f : i + suc n ≡ end + 1 = omega arith in
-        drop-drop (suc n) i t ∙ ap (λ (k : ℕ). drop k t) f ∙ drop_within (end + 1) t ∙ ap (λ (k : ℕ). drop k t) (sym g)
-
-    lines : lines_of (drop i t) ≡ take (end - i) (drop i t) ∷ lines_of (drop next t)
-    lines =
-        let f : n ≡ end - i = omega arith in
-        some-line (drop i t) (omega (arith, length-drop i t)) ∙ ap₂ (λ (k : ℕ) (l : List ℕ). take k (drop i t) ∷ lines_of l) f past
-
--- the first line of a text, which is empty where the text is
-pub first_is : (t : List ℕ) {end : ℕ} → end ≡ end_of t 0 → get_or (lines_of t) 0 [] ≡ take end t
-unfolding pieces
-first_is [] {end} e = sym (take-nil end)
-first_is (c ∷ cs) {end} e =
-    let z : end - 0 ≡ end = omega arith in
-    ap (λ (ls : List (List ℕ)). get_or ls 0 []) (step {t = c ∷ cs} (omega arith) e refl).lines ∙ ap (λ (k : ℕ). take k (c ∷ cs)) z
-
--- and those after it
-pub rest_is : (t : List ℕ) {end next : ℕ} → end ≡ end_of t 0 → next ≡ min (end + 1) (length t) → drop 1 (lines_of t) ≡ lines_of (drop next t)
-unfolding pieces
-rest_is [] {next = next} e g = ap lines_of (sym (drop-nil next))
-rest_is (c ∷ cs) e g = ap (drop 1) (step {t = c ∷ cs} (omega arith) e g).lines
-
--- ---- lines counted: so many so far, and with those left they are all
-pub record Counting (t : List ℕ) (from at k : ℕ) : Type 0 where
-  pub within : at ≤ length t
-  pub few : k ≤ at
-  pub all : k + length (lines_of (drop at t)) ≡ length (lines_of (drop from t))
-
--- at first none is counted
-pub counting_start : (t : List ℕ) (from : ℕ) → from ≤ length t → Counting t from from 0
-counting_start t from h = record { within = h; few = omega arith; all = omega arith }
-
-module _ {t : List ℕ} {from at k : ℕ} (c : Counting t from at k) where
-  -- one line more
-  pub counting_more : {end next : ℕ} → Step t at end next → Counting t from next (k + 1)
-  counting_more s = record {
-    within = s.within;
-    few = omega (arith, s.further, c.few);
-    all = omega (arith, c.all, ap length s.lines);
-  }
-
-  -- and at the end of the text all are
-  pub counting_done : length t ≤ at → k ≡ length (lines_of (drop from t))
-  counting_done h = omega (arith, c.all, ap length (lines_none t h))
+    go : (b : Bool) (ls : List (List ℕ)) → length ls ≤ length cs → length (choose b ([] ∷ ls) (onto c ls)) ≤ suc (length cs)
+    go true ls h = omega arith
+    go false [] h = omega arith
+    go false (l ∷ ls) h = omega arith
