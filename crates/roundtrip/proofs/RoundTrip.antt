@@ -12,8 +12,8 @@ use Rattle.reasons.specs.Output.{Wrote, wrote_by}
 use Rattle.reasons.specs.declared.Reason.TheVariants.{Room}
 use Rattle.reasons.proofs.Rows.{good_none, none_good, none_left}
 use Rattle.reasons.proofs.Wrote.{wrote-check}
-use Rattle.std.proofs.Common.{Result, Ok, Err, None as Nothing}
-use Rattle.reasons.specs.declared.Refusal.{Refusal}
+use Rattle.std.proofs.Common.{None as Nothing}
+use Rattle.std.specs.Result.{result_unwrap_or}
 use Rattle.sheet.specs.Sheet.{declared_of, all_words, sheet_rows, check_beside, check_of}
 use Rattle.listing.specs.Lines.{first_line, ended, word_lines, listing_of}
 use Rattle.listing.specs.Lister.{list_rows, list_of}
@@ -25,12 +25,8 @@ use Rattle.roundtrip.proofs.Texts.{words_by, said_lines, Says, says_sound, says_
 
 -- ---- what a call leaves that writes into a lent buffer
 -- the bytes that it wrote, at the start of the buffer
-abbrev pub bytes_by : Result ℕ Refusal → ℕ
-bytes_by (Ok bytes) = bytes
-bytes_by (Err refusal) = 0
-
 abbrev pub written_by : Wrote → List ℕ
-written_by x = take (bytes_by x.answer) x.buffer
+written_by x = take (result_unwrap_or x.answer 0) x.buffer
 
 -- where its answer is Ok they are those that it was to write
 wrote-out : (c : Check) (out d : List ℕ) → c ≡ good → written_by (wrote_by c out d) ≡ out
