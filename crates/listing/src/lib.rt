@@ -2,7 +2,7 @@
 #![tactic(auto)]
 
 ghost use Rattle.std.specs.Prelude.{◌≡◌, ◌+◌, ◌≤◌, ◌<◌, length};
-ghost use Rattle.reasons.specs.Reasons.{first_of, check_numbers};
+ghost use Rattle.reasons.specs.Reasons.{first_of, check_by, check_numbers};
 ghost use Rattle.packing.specs.Packing.{InRange};
 ghost use Rattle.sheet.specs.Sheet.{declared_of, all_words, Ready};
 ghost use Rattle.text.specs.Fill.{Added, Written};
@@ -11,7 +11,7 @@ ghost use Rattle.reasons.specs.Output.{wrote};
 ghost use Rattle.listing.specs.Lister.{list_rows, list_of};
 
 use chip::Word;
-use reasons::{Check, Output, Reason};
+use reasons::{Reason, Refusal, refuse_if};
 use sheet::Which;
 
 // The bytes of the longest listing: its first line, and 4,095 lines with every switch on.
@@ -122,10 +122,8 @@ fn size(sheet: &[u8]) -> usize
 {
     let count = sheet::words(sheet);
     let mut bytes: usize = FIRST;
-    let mut k: usize = 0;
-    while k < count {
+    for k in 0..count {
         bytes += line_length(sheet::word_at(sheet, sheet, Which::Main, k));
-        k += 1;
     }
     bytes
 }
@@ -137,10 +135,8 @@ fn put_lines(sheet: &[u8], text: &mut [u8], from: usize) -> usize
 {
     let count = sheet::words(sheet);
     let mut at = from;
-    let mut k: usize = 0;
-    while k < count {
+    for k in 0..count {
         at = put_line(sheet::word_at(sheet, sheet, Which::Main, k), text, at);
-        k += 1;
     }
     at
 }
@@ -158,19 +154,11 @@ fn fill(sheet: &[u8], text: &mut [u8]) -> usize
 // ---- the entry point
 
 // The listing of a sheet at the start of a lent buffer; how many bytes it has. `MOST` bytes always suffice.
-pub fn list(sheet: &[u8], text: &mut [u8]) -> Output
+pub fn list(sheet: &[u8], text: &mut [u8]) -> Result<usize, Refusal>
     ensures text_after { wrote result text.new ≡ list_of sheet.now text.old }
-    ensures numbers { check_numbers result.check ≡ check_numbers (first_of (list_rows sheet.now (length text.old))) }
+    ensures numbers { check_numbers (check_by result) ≡ check_numbers (first_of (list_rows sheet.now (length text.old))) }
 {
-    let check = sheet::check_sheet(sheet);
-    if let Check::Bad { reason, place } = check {
-        return reasons::nothing_written(reason, place);
-    }
-    if text.len() < size(sheet) {
-        return reasons::nothing_written(Reason::Room, 0);
-    }
-    Output {
-        check: Check::Good,
-        bytes: fill(sheet, text),
-    }
+    sheet::check_sheet(sheet)?;
+    refuse_if(text.len() < size(sheet), Reason::Room, 0)?;
+    Ok(fill(sheet, text))
 }

@@ -8,18 +8,17 @@ use native.Mathlib.Omega.{arith}
 use native.Mathlib.Decide.{dec_le}
 use lib.ListN.{length, length-append}
 use lib.Dec.{eqb}
-use Rattle.reasons.specs.Reasons.{Row, number_of, or_else, first_of}
-use Rattle.reasons.specs.Output.{Wrote, wrote}
-use Rattle.reasons.specs.declared.Output.{Output}
+use Rattle.reasons.specs.Reasons.{Row, number_of, or_else, first_of, Check, good, refused, check_by}
+use Rattle.reasons.specs.Output.{wrote}
+use Rattle.reasons.proofs.Wrote.{one-wrote}
+use Rattle.reasons.specs.declared.Refusal.{Refusal}
 use Rattle.reasons.specs.declared.Reason.{Reason}
 use Rattle.reasons.specs.declared.Reason.TheVariants.{Room, Count}
-use Rattle.reasons.specs.declared.Check.{Check}
-use Rattle.reasons.specs.declared.Check.TheVariants.{Good, Bad}
-use Rattle.reasons.proofs.Rows.{first_bad, first_good}
+use Rattle.reasons.proofs.Rows.{first_bad, first_good, same_reason}
 use Rattle.reasons.proofs.Numbers.{Tells, Telling, telling_first, telling_on}
 use Rattle.grammar.specs.declared.Head.{Head}
 use Rattle.chip.specs.declared.Word.{Word}
-use Rattle.std.specs.Prelude.{Option, Some, None}
+use Rattle.std.proofs.Common.{Option, Some, None, Result, Ok, Err}
 use Rattle.grammar.specs.Grammar.{word_in}
 use Rattle.reading.specs.Reader.{first_in, word_lines_in, version_by, registers_by, head_rows, line_rows, lines_rows, size_rows, read_rows, header4, split4, packed_line, packed_lines, sheet_in, read_of}
 use Rattle.reading.proofs.Table.{size-count, size_good}
@@ -71,7 +70,7 @@ rows_tell t room =
     (telling_on (of_lines t) (of_size t room) (lines-tell (registers_by (first_in t)) 1 (word_lines_in t)) (omega arith, (omega arith, tt)))
 
 -- so no refusal of `read` has number 0
-pub read_tells : (t d : List ℕ) → Tells (read_of t d).answer.check
+pub read_tells : (t d : List ℕ) → Tells (check_by (read_of t d).answer)
 read_tells t d = subst Tells (sym (read-check t d)) (telling_first (read_rows t (length d)) (rows_tell t (length d)))
 
 -- ---- the reasons of the whole come last
@@ -107,25 +106,25 @@ lines-others n k (l ∷ ls) = others_on (line_rows n k (word_in l)) (lines_rows 
 
 module _ (r : Reason) (p : ℕ) (whole : of_the_whole r ≡ true) where
   -- such a table does not answer them
-  others_never : (rows : List Row) → Others rows → first_of rows ≡ Bad r p → ⊥
+  others_never : (rows : List Row) → Others rows → first_of rows ≡ refused r p → ⊥
   others_never [] o e = let z : ◌≡◌ {A = ℕ} 0 1 = cc in omega arith
   others_never (x ∷ xs) o e = go x.holds e (others_never xs o.1)
     where
-      go : (b : Bool) → or_else b (Bad x.reason x.place) (first_of xs) ≡ Bad r p → (first_of xs ≡ Bad r p → ⊥) → ⊥
-      go true f i = let q : x.reason ≡ r = cc in true≢false (sym whole ∙ ap of_the_whole (sym q) ∙ o.0)
+      go : (b : Bool) → or_else b (refused x.reason x.place) (first_of xs) ≡ refused r p → (first_of xs ≡ refused r p → ⊥) → ⊥
+      go true f i = true≢false (sym whole ∙ ap of_the_whole (sym (same_reason f)) ∙ o.0)
       go false f i = i f
 
   -- where they are answered it holds nothing, and the table after it answers
-  others_past : (a b : List Row) → Others a → first_of (a ++ b) ≡ Bad r p → (first_of a ≡ Good) × (first_of b ≡ Bad r p)
+  others_past : (a b : List Row) → Others a → first_of (a ++ b) ≡ refused r p → (first_of a ≡ good) × (first_of b ≡ refused r p)
   others_past a b o e = go (first_of a) refl
     where
-      go : (c : Check) → first_of a ≡ c → (first_of a ≡ Good) × (first_of b ≡ Bad r p)
-      go Good h = (h, sym (first_good a b h) ∙ e)
-      go (Bad s q) h = absurd (others_never a o (h ∙ sym (first_bad a b s q h) ∙ e))
+      go : (c : Check) → first_of a ≡ c → (first_of a ≡ good) × (first_of b ≡ refused r p)
+      go (Ok done) h = (h, sym (first_good a b h) ∙ e)
+      go (Err x) h = absurd (others_never a o (h ∙ sym (first_bad a b x.reason x.place h) ∙ e))
 
   -- 16 Count and 14 Room are told only of texts whose lines are all good.
-  pub lines-first : (t : List ℕ) (room : ℕ) → first_of (read_rows t room) ≡ Bad r p
-      → (first_of (head_rows (first_in t)) ≡ Good) × (first_of (of_lines t) ≡ Good) × (first_of (of_size t room) ≡ Bad r p)
+  pub lines-first : (t : List ℕ) (room : ℕ) → first_of (read_rows t room) ≡ refused r p
+      → (first_of (head_rows (first_in t)) ≡ good) × (first_of (of_lines t) ≡ good) × (first_of (of_size t room) ≡ refused r p)
   unfolding read_rows
   lines-first t room e =
       let f = others_past (head_rows (first_in t)) (of_lines t ++ of_size t room) (head-others (first_in t)) e in
@@ -134,17 +133,17 @@ module _ (r : Reason) (p : ℕ) (whole : of_the_whole r ≡ true) where
 
 -- ---- room
 -- 4,095 words are 24,574 bytes, and of more 16 Count is told first
-size_fits : (count room p : ℕ) → 24574 ≤ room → first_of (size_rows count room) ≡ Bad Room p → ⊥
+size_fits : (count room p : ℕ) → 24574 ≤ room → first_of (size_rows count room) ≡ refused Room p → ⊥
 size_fits count room p h e = go (dec_le count 4095)
   where
     go : Dec (count ≤ 4095) → ⊥
-    go (yes k) = let f : first_of (size_rows count room) ≡ Good = size_good count room k (omega arith) in let z : ◌≡◌ {A = ℕ} 0 1 = cc in omega arith
-    go (no k) = let f : first_of (size_rows count room) ≡ Bad Count 0 = size-count count room (omega arith) in let z : ◌≡◌ {A = ℕ} 0 1 = cc in omega arith
+    go (yes k) = let q : good ≡ refused Room p = sym (size_good count room k (omega arith)) ∙ e in let z : ◌≡◌ {A = ℕ} 0 1 = cc in omega arith
+    go (no k) = let q : refused Count 0 ≡ refused Room p = sym (size-count count room (omega arith)) ∙ e in omega (arith, ap number_of (same_reason q))
 
 -- With a buffer of 24,574 bytes or more 14 Room is never given.
-pub read_fits : (t d : List ℕ) (p : ℕ) → 24574 ≤ length d → (read_of t d).answer.check ≡ Bad Room p → ⊥
+pub read_fits : (t d : List ℕ) (p : ℕ) → 24574 ≤ length d → check_by (read_of t d).answer ≡ refused Room p → ⊥
 read_fits t d p h e = size_fits (length (word_lines_in t)) (length d) p h (lines-first Room p refl t (length d) (sym (read-check t d) ∙ e)).2
 
 -- ---- no second answer and buffer meet the promise of `read`
-pub one-read : (t d : List ℕ) (o o' : Output) (b b' : List ℕ) → wrote o b ≡ read_of t d → wrote o' b' ≡ read_of t d → (o ≡ o') × (b ≡ b')
-one-read t d o o' b b' e e' = (ap (λ (w : Wrote). w.answer) (e ∙ sym e'), ap (λ (w : Wrote). w.buffer) (e ∙ sym e'))
+pub one-read : (t d : List ℕ) (o o' : Result ℕ Refusal) (b b' : List ℕ) → wrote o b ≡ read_of t d → wrote o' b' ≡ read_of t d → (o ≡ o') × (b ≡ b')
+one-read t d = one-wrote (read_of t d)

@@ -1,5 +1,5 @@
 -- These proofs assume nothing.
-pub mod Lines
+pub mod FirstLine
 pub mod Table
 pub mod Words
 pub mod Sheets

@@ -3,8 +3,7 @@ use mathlib.Core.Path.{◌≡◌, refl}
 use mathlib.Core.List.{List, [], ◌∷◌}
 use mathlib.Core.Bool.{true≢false}
 use Prim.Native.Nat.{ℕ, ◌+◌}
-use Rattle.reasons.specs.Reasons.{Row, first_of}
-use Rattle.reasons.specs.declared.Check.TheVariants.{Good}
+use Rattle.reasons.specs.Reasons.{Row, first_of, good}
 use Rattle.reasons.proofs.Rows.{None, good_none, none_left, none_right}
 use Rattle.reasons.proofs.Rows.None.{more}
 use Rattle.packing.specs.Packing.{InRange}
@@ -33,5 +32,5 @@ all_none n k (l ∷ ls) h =
     let b : List Row = lines_rows n (k + 1) ls in
     (line_fits n k l (none_left a b h), all_none n (k + 1) ls (none_right a b h))
 
-pub all_fit : (n k : ℕ) (ls : List (List ℕ)) → first_of (lines_rows n k ls) ≡ Good → AllFit ls
+pub all_fit : (n k : ℕ) (ls : List (List ℕ)) → first_of (lines_rows n k ls) ≡ good → AllFit ls
 all_fit n k ls e = all_none n k ls (good_none (lines_rows n k ls) e)

@@ -1,5 +1,5 @@
 -- The reader: the sheet that a text stands for, into a lent buffer, or the reason why not and the line (document 02, requests 2 and 5).
-use Rattle.std.specs.Prelude.{List, [], ◌∷◌, ◌++◌, true, not, ◌||◌, ℕ, ◌+◌, ◌*◌, ◌/◌, ◌%◌, ◌^◌, length, get_or, drop, eqb, ltb, leb, Option, Some, None}
+use Rattle.std.specs.Prelude.{List, [], ◌∷◌, ◌++◌, Bool, true, not, ◌||◌, ℕ, ◌+◌, ◌*◌, ◌/◌, ◌%◌, ◌^◌, length, get_or, drop, eqb, ltb, leb, Option, Some, None}
 use Rattle.reasons.specs.Reasons.{Row, ◌gives◌at◌, first_of}
 use Rattle.reasons.specs.declared.Reason.TheVariants.{Inputs, Version, Header, Register, Room, Text, Count, Idle}
 use Rattle.text.specs.Ascii.{newline}
@@ -8,12 +8,11 @@ use Rattle.packing.specs.Packing.{packed_number, bytes6, some, register_fields, 
 use Rattle.reasons.specs.Output.{Wrote, wrote_by}
 use Rattle.grammar.specs.declared.Head.{Head}
 use Rattle.grammar.specs.Grammar.{lines_of, head_in, word_in}
-use Rattle.grammar.specs.Scan.{leading}
 
 -- ---- what the lines say
--- where the line that starts at a place ends
-abbrev pub end_of : List ℕ → ℕ → ℕ
-end_of text i = i + leading (λ c. not (eqb newline c)) (drop i text)
+-- no line feed
+abbrev pub in_line : ℕ → Bool
+in_line c = not (eqb newline c)
 
 -- the first line; an empty text has an empty one
 abbrev pub first_in : List ℕ → Option Head

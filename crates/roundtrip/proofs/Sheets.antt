@@ -11,13 +11,12 @@ use lib.Dec.{eqb, ltb, leb}
 use Rattle.chip.specs.declared.Word.{Word}
 use Rattle.chip.specs.Single.{lacks_page}
 use Rattle.bits.specs.Bits.{bytes4}
-use Rattle.reasons.specs.Reasons.{rows_by}
-use Rattle.reasons.specs.declared.Check.TheVariants.{Good}
+use Rattle.reasons.specs.Reasons.{good, rows_by}
 use Rattle.reasons.proofs.Rows.{None, good_none, none_good, none_left, none_both, none_at}
 use Rattle.reasons.proofs.Rows.None.{none, more}
 use Rattle.packing.specs.Packing.{number6, fields_of, spare_of, packed_number, bytes6, some, register_fields, too_large, left_idle, differ, InRange}
 use Rattle.packing.proofs.Numbers.{or_left, fields_packed, fields_fit, packed_spare, packed_lt, packed_fields, number-bytes, bytes-number}
-use Rattle.sheet.specs.declared.Given.TheVariants.{Absent}
+use Rattle.std.proofs.Common.{None as Nothing}
 use Rattle.sheet.specs.Sheet.{number4, version_of, count_of, registers_of, zeros_of, words_of, declared_of, part_of, number_at, word_at, words_from, all_words, number_rows, word_rows, rows_beside, sheet_rows, check_beside, check_of, WordReady, Ready}
 use Rattle.sheet.proofs.Table.{part-six, body, tail, ready_alone}
 use Rattle.sheet.proofs.Positions.{All, words-length}
@@ -133,9 +132,9 @@ pub record Passed (s : List ℕ) : Type 0 where
   pub size : length s ≡ 4 + 6 * words_of s
   pub words : None (rows_by (word_rows s (declared_of s)) 0 (words_of s))
 
-pub passed : (s : List ℕ) → check_of s Absent Absent ≡ Good → Passed s
+pub passed : (s : List ℕ) → check_of s Nothing Nothing ≡ good → Passed s
 unfolding check_beside rows_beside words_of declared_of
-passed s e = go (good_none (sheet_rows s Absent Absent) e)
+passed s e = go (good_none (sheet_rows s Nothing Nothing) e)
   where
     h : ℕ
     h = number4 s
@@ -143,9 +142,9 @@ passed s e = go (good_none (sheet_rows s Absent Absent) e)
     z : Bool
     z = differ (zeros_of h) 0
 
-    go : None (sheet_rows s Absent Absent) → Passed s
+    go : None (sheet_rows s Nothing Nothing) → Passed s
     go (more h₁ (more h₂ (more h₃ (more h₄ (more h₅ t))))) =
-        let r : Ready s (declared_of s) = ready_alone 0 s Absent e in
+        let r : Ready s (declared_of s) = ready_alone 0 s Nothing e in
         let k : (z || eqb (registers_of h) 0) ≡ false = or_left (z || eqb (registers_of h) 0) (ltb 64 (registers_of h)) h₃ in
         let l : ℕ = 4 + 6 * count_of h + 0 * registers_of h in
         let m : length s ≡ l = eqb-true (length s) l (not-false _ h₄) in
@@ -155,21 +154,21 @@ passed s e = go (good_none (sheet_rows s Absent Absent) e)
           positive = r.some;
           small = r.few;
           size = omega arith;
-          words = none_left (body 0 s Absent Absent) (tail 0 s Absent Absent) t;
+          words = none_left (body 0 s Nothing Nothing) (tail 0 s Nothing Nothing) t;
         }
 
 -- and the other way round
-passes : (s : List ℕ) → Passed s → check_of s Absent Absent ≡ Good
+passes : (s : List ℕ) → Passed s → check_of s Nothing Nothing ≡ good
 unfolding check_beside rows_beside words_of declared_of
 passes s p =
     let h : ℕ = number4 s in
-    none_good (sheet_rows s Absent Absent)
+    none_good (sheet_rows s Nothing Nothing)
     (more (le-ltb (length s) 4 (omega arith))
     (more (no_differ (version_of h) 1 p.version)
     (more (rw (no_differ (zeros_of h) 0 p.zeros, ne_eqb (registers_of h) 0 (omega arith), le-ltb 64 (registers_of h) p.small) refl)
     (more (no_differ (length s) (4 + 6 * count_of h + 0 * registers_of h) (omega arith))
     (more refl
-    (none_both (body 0 s Absent Absent) (tail 0 s Absent Absent) p.words (more refl none)))))))
+    (none_both (body 0 s Nothing Nothing) (tail 0 s Nothing Nothing) p.words (more refl none)))))))
 
 -- ---- the sheet of n registers and words that can be run on them
 pub record Sound (n : ℕ) (ws : List Word) : Type 0 where
@@ -205,7 +204,7 @@ module _ {n : ℕ} {ws : List Word} (h : Sound n ws) where
   size-made = omega (arith, packed_length ws)
 
   -- it passes the check
-  pub made_good : check_of (sheet_for n ws) Absent Absent ≡ Good
+  pub made_good : check_of (sheet_for n ws) Nothing Nothing ≡ good
   made_good = passes (sheet_for n ws) (record {
     version = version-made;
     zeros = zeros-made;

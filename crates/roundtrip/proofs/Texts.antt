@@ -9,14 +9,12 @@ use borrow.Author.Tests.{eqb-true, eqb-false, ne_eqb, le-ltb, leb-false, ltb-fal
 use lib.ListN.{length, get_or, length-map}
 use lib.Dec.{eqb, ltb, leb}
 use Rattle.chip.specs.declared.Word.{Word}
-use Rattle.reasons.specs.Reasons.{first_of}
-use Rattle.reasons.specs.declared.Check.TheVariants.{Good}
+use Rattle.reasons.specs.Reasons.{good, first_of}
 use Rattle.reasons.proofs.Rows.{None, good_none, none_good, none_left, none_right, none_both}
 use Rattle.reasons.proofs.Rows.None.{none, more}
 use Rattle.packing.specs.Packing.{bytes6, packed_number, register_fields}
 use Rattle.packing.proofs.Numbers.{or_left, or_right, Every, every, in_range}
 use Rattle.packing.proofs.Numbers.Every.{end, and}
-use Rattle.sheet.specs.declared.Given.TheVariants.{Absent}
 use Rattle.sheet.specs.Sheet.{number4, version_of, words_of, declared_of, all_words, check_of, WordReady, Ready}
 use Rattle.sheet.proofs.Table.{ready_alone}
 use Rattle.sheet.proofs.Positions.{All, all_words_lem, words-length}
@@ -121,7 +119,7 @@ module _ {text : List ℕ} {n : ℕ} {ws : List Word} (h : Says text n ws) where
   says_sheet = rw (h.first, said_length n h.lines, said_packed n h.lines) refl
 
   -- and does not refuse the text if there is room
-  pub says_good : (room : ℕ) → 4 + 6 * length ws ≤ room → first_of (read_rows text room) ≡ Good
+  pub says_good : (room : ℕ) → 4 + 6 * length ws ≤ room → first_of (read_rows text room) ≡ good
   unfolding read_rows
   says_good room l =
       rw (h.first, said_length n h.lines)
@@ -132,7 +130,7 @@ module _ {text : List ℕ} {n : ℕ} {ws : List Word} (h : Says text n ws) where
       (more (le-ltb 4095 (length ws) h.few) (more (le-ltb room (4 + 6 * length ws) l) none))))))
 
 -- a text that is not refused says some
-pub good_says : (text : List ℕ) (room : ℕ) → first_of (read_rows text room) ≡ Good
+pub good_says : (text : List ℕ) (room : ℕ) → first_of (read_rows text room) ≡ good
     → Says text (registers_by (first_in text)) (words_by (word_lines_in text))
 unfolding read_rows
 good_says text room e = go (first_in text) refl (good_none (read_rows text room) e)
@@ -159,11 +157,11 @@ good_says text room e = go (first_in text) refl (good_none (read_rows text room)
         }
 
 -- the listing of a sheet that passed says those of the sheet
-pub listing_says : (s : List ℕ) → check_of s Absent Absent ≡ Good → Says (listing_of s) (declared_of s) (all_words s)
+pub listing_says : (s : List ℕ) → check_of s Outside Outside ≡ good → Says (listing_of s) (declared_of s) (all_words s)
 unfolding words_of
 listing_says s e =
     let p : Passed s = passed s e in
-    let r : Ready s (declared_of s) = ready_alone 0 s Absent e in
+    let r : Ready s (declared_of s) = ready_alone 0 s Outside e in
     let n : ℕ = declared_of s in
     let v : ℕ = version_of (number4 s) in
     let one : v ≡ 1 = p.version in

@@ -8,10 +8,10 @@ use lib.ListN.{length, get_or, take, drop, length-append}
 use lib.Dec.{ltb}
 use Rattle.reasons.specs.declared.Reason.{Reason}
 use Rattle.reasons.specs.declared.Reason.TheVariants.{Done, Opcode, Inputs, Short, Version, Header, Length, File, Spare, Register, Start, Form, Overlap, Schedule, Room, Text, Count, Idle}
-use Rattle.reasons.specs.declared.Check.{Check}
-use Rattle.reasons.specs.declared.Check.TheVariants.{Good, Bad}
-use Rattle.reasons.specs.declared.Output.{Output}
-use Rattle.reasons.specs.Reasons.{number_of, first_of}
+use Rattle.std.proofs.Common.{Result, Ok, Err, IfOk}
+use Rattle.std.specs.Result.{result_unwrap_or}
+use Rattle.reasons.specs.declared.Refusal.{Refusal}
+use Rattle.reasons.specs.Reasons.{Check, number_of, first_of}
 use Rattle.reasons.specs.Output.{Wrote, wrote, wrote_by}
 use Rattle.text.specs.Text.{either, hex_of, decimal_of}
 use Rattle.text.specs.Ascii.{ascii}
@@ -19,13 +19,6 @@ use Rattle.listing.specs.Lines.{listing_of}
 use Rattle.listing.specs.Lister.{list_rows, list_of}
 use Rattle.reading.specs.Reader.{read_rows, sheet_in, read_of}
 use Rattle.telling.specs.Telling.{name_of, expected_of, numbers_of, placed, digits_in, plain_of, place_by, told_of}
-
--- ---- a reason known by its variant
-pub name_of_lem : {reason variant : Reason} → reason ≡ variant → ascii (name_of variant) ≡ ascii (name_of reason)
-name_of_lem e = ap (λ (r : Reason). ascii (name_of r)) (sym e)
-
-pub expected_of_lem : {reason variant : Reason} → reason ≡ variant → ascii (expected_of variant) ≡ ascii (expected_of reason)
-expected_of_lem e = ap (λ (r : Reason). ascii (expected_of r)) (sym e)
 
 -- ---- the numbers
 pub numbers_are : (n p : List ℕ) (reason : Reason) (k place : ℕ) → k ≡ number_of reason → n ≡ decimal_of 2 k → p ≡ hex_of 4 (place % 65536)
@@ -158,15 +151,19 @@ module _ (counted : List ℕ) (place : ℕ) where
 
 -- ---- answers
 -- an output is no longer than its buffer
-output_fits : (c : Check) (out d b : List ℕ) (a : Output) → wrote a b ≡ wrote_by c out d → length b ≡ length d → a.bytes ≤ length d
-output_fits Good out d b a e h =
-    omega (arith, ap (λ (w : Wrote). w.answer.bytes) e, ap (λ (w : Wrote). length w.buffer) e ∙ length-append out (drop (length out) d))
-output_fits (Bad reason place) out d b a e h = omega (arith, ap (λ (w : Wrote). w.answer.bytes) e)
+abbrev Fits : Result ℕ Refusal → List ℕ → Type 0
+Fits a d = IfOk a (λ n. n ≤ length d)
 
-pub list_fits : (s d b : List ℕ) (a : Output) → wrote a b ≡ list_of s d → length b ≡ length d → a.bytes ≤ length d
+output_fits : (c : Check) (out d b : List ℕ) (a : Result ℕ Refusal) → wrote a b ≡ wrote_by c out d → length b ≡ length d → Fits a d
+output_fits c out d b (Err refusal) e h = tt
+output_fits (Ok done) out d b (Ok n) e h =
+    omega (arith, ap (λ (w : Wrote). result_unwrap_or w.answer 0) e, ap (λ (w : Wrote). length w.buffer) e ∙ length-append out (drop (length out) d))
+output_fits (Err refusal) out d b (Ok n) e h = omega (arith, ap (λ (w : Wrote). result_unwrap_or w.answer 0) e)
+
+pub list_fits : (s d b : List ℕ) (a : Result ℕ Refusal) → wrote a b ≡ list_of s d → length b ≡ length d → Fits a d
 unfolding list_of
 list_fits s d b a e h = output_fits (first_of (list_rows s (length d))) (listing_of s) d b a e h
 
-pub read_fits : (t d b : List ℕ) (a : Output) → wrote a b ≡ read_of t d → length b ≡ length d → a.bytes ≤ length d
+pub read_fits : (t d b : List ℕ) (a : Result ℕ Refusal) → wrote a b ≡ read_of t d → length b ≡ length d → Fits a d
 unfolding read_of
 read_fits t d b a e h = output_fits (first_of (read_rows t (length d))) (sheet_in t) d b a e h

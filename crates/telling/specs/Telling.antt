@@ -1,10 +1,9 @@
 -- A refusal in words: the line that the trace would end in, and after it the reason's name, the place, and what was expected.
-use Rattle.std.specs.Prelude.{◌≡◌, List, [], ◌∷◌, ◌++◌, Bool, true, false, ℕ, ◌%◌, ltb}
+use Rattle.std.specs.Prelude.{◌≡◌, List, [], ◌∷◌, ◌++◌, Bool, true, false, ℕ, ◌%◌, ltb, Result, Ok, Err}
 use Prim.Native.String.{String}
 use Rattle.reasons.specs.declared.Reason.{Reason}
 use Rattle.reasons.specs.declared.Reason.TheVariants.{Done, Opcode, Inputs, Short, Version, Header, Length, File, Spare, Register, Start, Form, Overlap, Schedule, Room, Text, Count, Idle}
-use Rattle.reasons.specs.declared.Check.{Check}
-use Rattle.reasons.specs.declared.Check.TheVariants.{Good, Bad}
+use Rattle.reasons.specs.declared.Refusal.{Refusal}
 use Rattle.reasons.specs.Reasons.{number_of}
 use Rattle.text.specs.Text.{either, hex_of, decimal_of}
 use Rattle.text.specs.Ascii.{ascii, space, newline}
@@ -101,6 +100,6 @@ told_of reason place counted =
     ++ newline ∷ []
 
 -- what is shown of an answer: the output, which stands at the buffer's start already, or the line of the refusal in its place
-abbrev pub ShownBy : Check → ℕ → List ℕ → List ℕ → ℕ → List ℕ → Type 0
-ShownBy Good bytes counted before n after = (n ≡ bytes) × (after ≡ before)
-ShownBy (Bad reason place) bytes counted before n after = Written (told_of reason place counted) before n after
+abbrev pub ShownBy : Result ℕ Refusal → List ℕ → List ℕ → ℕ → List ℕ → Type 0
+ShownBy (Ok bytes) counted before n after = (n ≡ bytes) × (after ≡ before)
+ShownBy (Err refusal) counted before n after = Written (told_of refusal.reason refusal.place counted) before n after

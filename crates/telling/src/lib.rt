@@ -2,12 +2,12 @@
 // `list` and `assemble` do: a call, and its output or its refusal written.
 #![tactic(auto)]
 
-ghost use Rattle.std.specs.Prelude.{◌≡◌, ◌+◌, ◌≤◌, ◌<◌, ◌%◌, length};
+ghost use Rattle.std.specs.Prelude.{◌≡◌, ◌+◌, ◌≤◌, ◌<◌, ◌%◌, length, IfOk};
 ghost use Rattle.text.specs.Ascii.{ascii};
 ghost use Rattle.text.specs.Fill.{Added, Written};
 ghost use Rattle.telling.specs.Telling.{name_of, expected_of, placed, digits_in, plain_of, place_by, numbers_of, told_of, ShownBy};
 
-use reasons::{Check, Output, Reason};
+use reasons::{Reason, Refusal, refuse_if};
 
 // The bytes of the two numbers with their blanks.
 const NUMBERS: usize = 8;
@@ -23,30 +23,48 @@ fn numbers(reason: Reason, place: usize) -> [u8; NUMBERS]
     [n[0], n[1], b' ', p[0], p[1], p[2], p[3], b' ']
 }
 
-// A reason's name.
-fn put_name(reason: Reason, text: &mut [u8], at: usize) -> usize
-    requires { at + 8 ≤ length text.old }
-    ensures { Added (ascii (name_of reason)) at text.old result text.new }
+// A reason's name, and what was expected where it is given.
+fn words(reason: Reason) -> (&'static [u8], &'static [u8])
+    ensures name { result.0.now ≡ ascii (name_of reason) }
+    ensures expected { result.1.now ≡ ascii (expected_of reason) }
 {
     match reason {
-        Reason::Done => text::put(b"Done", text, at),
-        Reason::Opcode => text::put(b"Opcode", text, at),
-        Reason::Inputs => text::put(b"Inputs", text, at),
-        Reason::Short => text::put(b"Short", text, at),
-        Reason::Version => text::put(b"Version", text, at),
-        Reason::Header => text::put(b"Header", text, at),
-        Reason::Length => text::put(b"Length", text, at),
-        Reason::File => text::put(b"File", text, at),
-        Reason::Spare => text::put(b"Spare", text, at),
-        Reason::Register => text::put(b"Register", text, at),
-        Reason::Start => text::put(b"Start", text, at),
-        Reason::Form => text::put(b"Form", text, at),
-        Reason::Overlap => text::put(b"Overlap", text, at),
-        Reason::Schedule => text::put(b"Schedule", text, at),
-        Reason::Room => text::put(b"Room", text, at),
-        Reason::Text => text::put(b"Text", text, at),
-        Reason::Count => text::put(b"Count", text, at),
-        Reason::Idle => text::put(b"Idle", text, at),
+        Reason::Done => (b"Done", b"nothing else"),
+        Reason::Opcode => (b"Opcode", b"an opcode that has a page in the manual"),
+        Reason::Inputs => (
+            b"Inputs",
+            b"code 0 to 3, position 0 to 63, width 0 to 31, registers 0 to 63, switches 0 or 1",
+        ),
+        Reason::Short => (b"Short", b"4 bytes or more"),
+        Reason::Version => (b"Version", b"version 1"),
+        Reason::Header => (
+            b"Header",
+            b"1 to 64 registers, and in a sheet zero bits after their number",
+        ),
+        Reason::Length => (
+            b"Length",
+            b"4 bytes, and 6 for each word that the header counts",
+        ),
+        Reason::File => (b"File", b"as many registers as the sheet declares"),
+        Reason::Spare => (b"Spare", b"a word that ends in five zero bits"),
+        Reason::Register => (b"Register", b"registers below the number that is declared"),
+        Reason::Start => (b"Start", b"a start that is not past the last word"),
+        Reason::Form => (b"Form", b"a handler of the form"),
+        Reason::Overlap => (b"Overlap", b"no register that both sheets name"),
+        Reason::Schedule => (
+            b"Schedule",
+            b"boundaries that do not fall, within the main list",
+        ),
+        Reason::Room => (
+            b"Room",
+            b"an output that fits its buffer, and an input that fits the program's",
+        ),
+        Reason::Text => (
+            b"Text",
+            b"MNEMONIC code= position= width= A= B= Y= and the switches that are on; in line 0 version= registers=",
+        ),
+        Reason::Count => (b"Count", b"4,095 words or fewer"),
+        Reason::Idle => (b"Idle", b"register Y 0 in a word without write"),
     }
 }
 
@@ -54,45 +72,28 @@ fn put_name(reason: Reason, text: &mut [u8], at: usize) -> usize
 fn is_placed(reason: Reason) -> bool
     ensures { result ≡ placed reason }
 {
-    match reason {
-        Reason::Done => false,
-        Reason::Opcode => true,
-        Reason::Inputs => true,
-        Reason::Short => false,
-        Reason::Version => false,
-        Reason::Header => false,
-        Reason::Length => false,
-        Reason::File => false,
-        Reason::Spare => true,
-        Reason::Register => true,
-        Reason::Start => false,
-        Reason::Form => false,
-        Reason::Overlap => false,
-        Reason::Schedule => false,
-        Reason::Room => false,
-        Reason::Text => true,
-        Reason::Count => false,
-        Reason::Idle => true,
-    }
+    matches!(
+        reason,
+        Reason::Opcode
+            | Reason::Inputs
+            | Reason::Spare
+            | Reason::Register
+            | Reason::Text
+            | Reason::Idle
+    )
 }
 
-// How many digits a number has, of five, without zeros in front.
+// How many of its low five decimal digits a number has without zeros in front.
 fn digits_in(n: u32) -> usize
     ensures { (result ≡ digits_in n) × (result ≤ 5) }
 {
-    if n < 10 {
-        return 1;
+    match n {
+        0..=9 => 1,
+        10..=99 => 2,
+        100..=999 => 3,
+        1000..=9999 => 4,
+        _ => 5,
     }
-    if n < 100 {
-        return 2;
-    }
-    if n < 1000 {
-        return 3;
-    }
-    if n < 10000 {
-        return 4;
-    }
-    5
 }
 
 // A number in decimal.
@@ -103,7 +104,7 @@ fn put_plain(n: usize, text: &mut [u8], at: usize) -> usize
     let low = (n % 100000) as u32;
     let five = text::decimal::<5>(low as u64);
     let zeros = 5 - digits_in(low);
-    text::put(&five[zeros..5], text, at)
+    text::put(&five[zeros..], text, at)
 }
 
 // The place, with what is counted.
@@ -120,57 +121,6 @@ fn put_place(reason: Reason, place: usize, counted: &[u8], text: &mut [u8], at: 
     put_plain(place, text, number)
 }
 
-// What was expected where it is given.
-fn put_expected(reason: Reason, text: &mut [u8], at: usize) -> usize
-    requires { at + 100 ≤ length text.old }
-    ensures { Added (ascii (expected_of reason)) at text.old result text.new }
-{
-    match reason {
-        Reason::Done => text::put(b"nothing else", text, at),
-        Reason::Opcode => text::put(b"an opcode that has a page in the manual", text, at),
-        Reason::Inputs => text::put(
-            b"code 0 to 3, position 0 to 63, width 0 to 31, registers 0 to 63, switches 0 or 1",
-            text,
-            at,
-        ),
-        Reason::Short => text::put(b"4 bytes or more", text, at),
-        Reason::Version => text::put(b"version 1", text, at),
-        Reason::Header => text::put(
-            b"1 to 64 registers, and in a sheet zero bits after their number",
-            text,
-            at,
-        ),
-        Reason::Length => text::put(
-            b"4 bytes, and 6 for each word that the header counts",
-            text,
-            at,
-        ),
-        Reason::File => text::put(b"as many registers as the sheet declares", text, at),
-        Reason::Spare => text::put(b"a word that ends in five zero bits", text, at),
-        Reason::Register => text::put(b"registers below the number that is declared", text, at),
-        Reason::Start => text::put(b"a start that is not past the last word", text, at),
-        Reason::Form => text::put(b"a handler of the form", text, at),
-        Reason::Overlap => text::put(b"no register that both sheets name", text, at),
-        Reason::Schedule => text::put(
-            b"boundaries that do not fall, within the main list",
-            text,
-            at,
-        ),
-        Reason::Room => text::put(
-            b"an output that fits its buffer, and an input that fits the program's",
-            text,
-            at,
-        ),
-        Reason::Text => text::put(
-            b"MNEMONIC code= position= width= A= B= Y= and the switches that are on; in line 0 version= registers=",
-            text,
-            at,
-        ),
-        Reason::Count => text::put(b"4,095 words or fewer", text, at),
-        Reason::Idle => text::put(b"register Y 0 in a word without write", text, at),
-    }
-}
-
 // ---- the line
 
 // A refusal's line at the start of a text; how many bytes it has.
@@ -179,36 +129,32 @@ pub fn tell(reason: Reason, place: usize, counted: &[u8], text: &mut [u8]) -> us
     ensures { Written (told_of reason place counted.now) text.old result text.new }
 {
     let two = numbers(reason, place);
-    let name = text::put(&two, text, 0);
-    let spot = put_name(reason, text, name);
+    let (name, expected) = words(reason);
+    let start = text::put(&two, text, 0);
+    let spot = text::put(name, text, start);
     let colon = put_place(reason, place, counted, text, spot);
     let what = text::put(b": expected ", text, colon);
-    let end = put_expected(reason, text, what);
+    let end = text::put(expected, text, what);
     text::put(b"\n", text, end)
 }
 
 // ---- answers
 
 // What is shown of an answer: its output, which stands at the start of the buffer, or a refusal's line there; how many bytes it has.
-fn shown(answer: Output, counted: &[u8], buffer: &mut [u8]) -> usize
-    requires { (256 ≤ length buffer.old) × (length counted.now ≤ 8) × (answer.bytes ≤ length buffer.old) }
+fn shown(answer: Result<usize, Refusal>, counted: &[u8], buffer: &mut [u8]) -> usize
+    requires { (256 ≤ length buffer.old) × (length counted.now ≤ 8) × IfOk answer (λ bytes. bytes ≤ length buffer.old) }
     ensures upper_bound { result ≤ length buffer.old }
-    ensures line { ShownBy answer.check answer.bytes counted.now buffer.old result buffer.new }
+    ensures line { ShownBy answer counted.now buffer.old result buffer.new }
 {
-    let check = answer.check;
-    if let Check::Bad { reason, place } = check {
-        return tell(reason, place, counted, buffer);
+    match answer {
+        Ok(bytes) => bytes,
+        Err(refusal) => tell(refusal.reason, refusal.place, counted, buffer),
     }
-    answer.bytes
 }
 
 // Where an answer of the assembler goes: a sheet to standard output, a refusal's line, which is no sheet, to standard error.
-fn stream(answer: Output) -> i32 {
-    let check = answer.check;
-    if let Check::Good = check {
-        return 1;
-    }
-    2
+fn stream(answer: Result<usize, Refusal>) -> i32 {
+    if answer.is_ok() { 1 } else { 2 }
 }
 
 // The listing of a sheet, or why it has none, to standard output, by way of a buffer.
@@ -221,12 +167,10 @@ pub fn write_listing(sheet: &[u8], text: &mut [u8])
 }
 
 // The sheet of a text; a text that fills what the program has for it may be cut short, and is refused.
-fn assembled(text: &[u8], room: usize, sheet: &mut [u8]) -> Output
-    ensures { result.bytes ≤ length sheet.old }
+fn assembled(text: &[u8], room: usize, sheet: &mut [u8]) -> Result<usize, Refusal>
+    ensures { IfOk result (λ bytes. bytes ≤ length sheet.old) }
 {
-    if room <= text.len() {
-        return reasons::nothing_written(Reason::Room, 0);
-    }
+    refuse_if(room <= text.len(), Reason::Room, 0)?;
     reading::read(text, sheet)
 }
 

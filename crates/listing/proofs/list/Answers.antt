@@ -1,52 +1,35 @@
 -- Refused for its own reason, or for want of room, or listed.
-use mathlib.Core.Path.{sym, ap, ◌∙◌}
+use mathlib.Core.Path.{sym, ◌∙◌}
 use native.Mathlib.Omega.{arith}
-use Rattle.reasons.specs.declared.Output.{Output}
-use Rattle.reasons.specs.Output.{wrote}
-use Rattle.sheet.specs.declared.Given.TheVariants.{Absent}
+use borrow.Author.Tests.{ltb-true, ltb-false}
+use Rattle.std.proofs.Common.{None}
+use Rattle.reasons.proofs.Rows.{passed_on}
 use Rattle.sheet.proofs.Table.{ready_alone}
 use Rattle.listing.proofs.Answers.{list_sheet, list-room, list_done, list-numbers}
 use Rattle.listing.proofs.list.Goals as goal
 
-pub returns-in-Bad : goal.returns-in-Bad
-returns-in-Bad c =
-    let p = let a = c in
-    let k = c.check_sheet-check in
-    let s = a.args.sheet.now in
-    let d = a.args.text.now in
-    list-numbers s d (ap (λ (o : Output). wrote o d) c.nothing_written.ensures ∙ list_sheet s d (sym k.ensures.value ∙ c.in-Bad.is)) in
+pub returns-in_err-check_sheet : goal.returns-in_err-check_sheet
+returns-in_err-check_sheet c =
+    let p = list-numbers c.args.sheet.now c.args.text.now _ _ (rw (passed_on _ _ c.from_residual.ensures.1) (list_sheet c.args.sheet.now c.args.text.now _ (sym c.check_sheet.ensures.value ∙ c.in_err-check_sheet.was))) in
     record { text_after = p.0; numbers = p.1 }
 
 pub size-requires : goal.size-requires
-size-requires c = let a = c in
-    let k = c.check_sheet-check in
-    ready_alone 0 a.args.sheet.now Absent (sym k.ensures.value ∙ c.in_default.is)
+size-requires c = ready_alone 0 c.args.sheet.now None (sym c.check_sheet.ensures.value ∙ c.in_ok-check_sheet.was)
 
-pub returns-then-text-size : goal.returns-then-text-size
-returns-then-text-size c =
-    let p = let a = c in
-    let k = c.check_sheet-check in
-    let n = c.size in
-    let i = c.if-text-size in
-    let s = a.args.sheet.now in
-    let d = a.args.text.now in
-    list-numbers s d (ap (λ (o : Output). wrote o d) c.nothing_written-then-text-size.ensures
-    ∙ list-room s d (sym k.ensures.value ∙ c.in_default.is) (omega (arith, i.true, n.ensures))) in
+pub returns-in_err-refuse_if : goal.returns-in_err-refuse_if
+returns-in_err-refuse_if c =
+    let p = list-numbers c.args.sheet.now c.args.text.now _ _
+    (rw (passed_on _ _ c.from_residual-in_err-refuse_if.ensures.1, c.in_err-refuse_if.ensures.held.1)
+    (list-room c.args.sheet.now c.args.text.now (sym c.check_sheet.ensures.value ∙ c.in_ok-check_sheet.was) (omega (arith, ltb-true _ _ c.in_err-refuse_if.ensures.held.0, c.size.ensures)))) in
     record { text_after = p.0; numbers = p.1 }
 
 pub fill-requires : goal.fill-requires
-fill-requires c = let a = c in
-    let k = c.check_sheet-check in
-    let n = c.size in
-    let i = c.if-text-size in
-    (ready_alone 0 a.args.sheet.now Absent (sym k.ensures.value ∙ c.in_default.is), omega (arith, i.false, n.ensures))
+fill-requires c = (
+  ready_alone 0 c.args.sheet.now None (sym c.check_sheet.ensures.value ∙ c.in_ok-check_sheet.was),
+  omega (arith, ltb-false _ _ c.in_ok-refuse_if.ensures.passed, c.size.ensures),
+)
 
 pub returns : goal.returns
 returns c =
-    let p = let a = c in
-    let k = c.check_sheet-check in
-    let f = c.fill in
-    let s = a.args.sheet.now in
-    let d = a.args.text.now in
-    list-numbers s d (list_done s d (sym k.ensures.value ∙ c.in_default.is) f.ensures) in
+    let p = list-numbers c.args.sheet.now c.args.text.now _ _ (list_done c.args.sheet.now c.args.text.now (sym c.check_sheet.ensures.value ∙ c.in_ok-check_sheet.was) c.fill.ensures) in
     record { text_after = p.0; numbers = p.1 }

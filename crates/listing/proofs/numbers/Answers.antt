@@ -5,4 +5,11 @@ use Rattle.listing.proofs.numbers.Goals as goal
 pub returns : goal.returns
 unfolding numbers_of
 returns c =
-    rw (c.decimal-y.ensures, c.decimal-b.ensures, c.decimal-a.ensures, c.decimal-width.ensures, c.decimal-position.ensures, c.decimal-code.ensures)
+    rw (
+      c.decimal-y.ensures,
+      c.decimal-b.ensures,
+      c.decimal-a.ensures,
+      c.decimal-width.ensures,
+      c.decimal-position.ensures,
+      c.decimal-code.ensures,
+    )

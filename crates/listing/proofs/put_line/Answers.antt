@@ -9,41 +9,17 @@ use Rattle.listing.proofs.Lines.{numbers-length, line_parts}
 use Rattle.listing.proofs.put_line.Goals as goal
 
 pub put-column-requires : goal.put-column-requires
-put-column-requires c = let z = c in
-    let m = c.column-name in
-    omega (arith, z.requires.1, line_parts z.args.w, ap length m.ensures ∙ column-length z.args.w.opcode)
+put-column-requires c = omega (arith, c.requires.1, line_parts c.args.w, ap length c.column-name.ensures ∙ column-length c.args.w.opcode)
 
 pub put-switches-requires : goal.put-switches-requires
-put-switches-requires c = let z = c in
-    let m = c.column-name in
-    let p = c.put-column in
-    let n = c.numbers-six in
-    omega (arith, z.requires.1, line_parts z.args.w, ap length m.ensures ∙ column-length z.args.w.opcode, p.ensures.ends, p.auto.text, ap length n.ensures ∙ numbers-length z.args.w)
+put-switches-requires c = omega (arith, c.requires.1, line_parts c.args.w, ap length c.column-name.ensures ∙ column-length c.args.w.opcode, c.put-column.ensures.ends, c.put-column.auto.text, ap length c.numbers-six.ensures ∙ numbers-length c.args.w)
 
 pub put_switches-end-requires : goal.put_switches-end-requires
-put_switches-end-requires c = let z = c in
-    let m = c.column-name in
-    let p = c.put-column in
-    let n = c.numbers-six in
-    let q = c.put-switches in
-    omega (arith, z.requires.1, line_parts z.args.w, ap length m.ensures ∙ column-length z.args.w.opcode, p.ensures.ends, p.auto.text, ap length n.ensures ∙ numbers-length z.args.w, q.ensures.ends, q.auto.text)
+put_switches-end-requires c = omega (arith, c.requires.1, line_parts c.args.w, ap length c.column-name.ensures ∙ column-length c.args.w.opcode, c.put-column.ensures.ends, c.put-column.auto.text, ap length c.numbers-six.ensures ∙ numbers-length c.args.w, c.put-switches.ensures.ends, c.put-switches.auto.text)
 
 pub put-requires : goal.put-requires
-put-requires c = let z = c in
-    let m = c.column-name in
-    let p = c.put-column in
-    let n = c.numbers-six in
-    let q = c.put-switches in
-    let s = c.put_switches-end in
-    omega (arith, z.requires.1, line_parts z.args.w, ap length m.ensures ∙ column-length z.args.w.opcode, p.ensures.ends, p.auto.text, ap length n.ensures ∙ numbers-length z.args.w, q.ensures.ends, q.auto.text, s.ensures.ends, s.auto.text)
+put-requires c = omega (arith, c.requires.1, line_parts c.args.w, ap length c.column-name.ensures ∙ column-length c.args.w.opcode, c.put-column.ensures.ends, c.put-column.auto.text, ap length c.numbers-six.ensures ∙ numbers-length c.args.w, c.put-switches.ensures.ends, c.put-switches.auto.text, c.put_switches-end.ensures.ends, c.put_switches-end.auto.text)
 
 pub returns : goal.returns
-returns c = let z = c in
-    let m = c.column-name in
-    let p = c.put-column in
-    let n = c.numbers-six in
-    let q = c.put-switches in
-    let s = c.put_switches-end in
-    let e = c.put in
-    let h : z.args.at ≤ length z.args.text.now = omega (arith, z.requires.1) in
-    added_on h (added_on h (added_on h (added_as m.ensures p.ensures) (added_as n.ensures q.ensures)) s.ensures) e.ensures
+returns c = let h : c.args.at ≤ length c.args.text.now = omega (arith, c.requires.1) in
+    added_on h (added_on h (added_on h (added_as c.column-name.ensures c.put-column.ensures) (added_as c.numbers-six.ensures c.put-switches.ensures)) c.put_switches-end.ensures) c.put.ensures

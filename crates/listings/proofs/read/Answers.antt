@@ -3,6 +3,4 @@ use Rattle.telling.proofs.Telling.{read_fits}
 use Rattle.listings.proofs.read.Goals as goal
 
 pub returns : goal.returns
-returns c = let r = c.read in
-    let z = c in
-    read_fits z.args.text.now z.args.sheet.now r.new.sheet r.result r.ensures.sheet_after r.auto.sheet
+returns c = read_fits c.args.text.now c.args.sheet.now c.read.new.sheet c.read.result c.read.ensures.sheet_after c.read.auto.sheet

@@ -1,49 +1,27 @@
--- The whole table answers as what is left of it (`Checking`). The measure is what is left of the text.
-use mathlib.Core.Path.{refl, sym, ◌∙◌}
+-- The whole table answers as what is left of it (`Checking`).
+use mathlib.Core.Path.{sym, ◌∙◌}
+use mathlib.Core.Logic.{inl}
 use native.Mathlib.Omega.{arith}
-use Rattle.reading.proofs.Lines.{line_ends, step}
-use Rattle.reading.proofs.Table.{checking_start, checking_bad, checking_more, checking_done}
+use Rattle.reasons.proofs.Rows.{passed_on}
+use Rattle.reading.proofs.FirstLine.{lines_few}
+use Rattle.reading.proofs.Table.{checking_bad, checking_more, checking_done}
 use Rattle.reading.proofs.check_lines.Goals as goal
 
-pub loop-at-init : goal.loop-at-init
-loop-at-init c = checking_start _ _ _ c.requires
+pub loop-k-init-derived : goal.loop-k-init-derived
+loop-k-init-derived c =
+    let w = c.well_formed in
+    let e = c.enumerate-k-items.ensures in
+    ((tt, tt, inl (rw (c.into_iter-k-iterator.ensures.into_iter_gives, e.count, e.source) (omega (arith, lines_few c.args.text.now)))), tt)
 
-pub line_end-end-requires : goal.line_end-end-requires
-line_end-end-requires c = c.loop-at.invariant.within
+pub returns-in_err-check_line : goal.returns-in_err-check_line
+returns-in_err-check_line c =
+    let s = c.in-Some.ensures.steps in
+    passed_on _ _ c.from_residual.ensures.1 ∙ checking_bad c.loop-k.invariant s.0 s.1 _ (sym c.check_line.ensures ∙ c.in_err-check_line.was)
 
-pub slice_bounds-check_line-count : goal.slice_bounds-check_line-count
-slice_bounds-check_line-count c = (line_ends _ c.loop-at.invariant.within c.line_end-end.ensures).starts
-
-pub returns-in-Bad : goal.returns-in-Bad
-returns-in-Bad c = let e = c in
-    checking_bad e.loop-at.invariant (step e.loop-at-test.true e.line_end-end.ensures refl)
-    (sym c.check_line-c.ensures ∙ c.in-Bad.is)
-
-pub next_line-at-requires : goal.next_line-at-requires
-next_line-at-requires c = let e = c in (line_ends _ e.loop-at.invariant.within e.line_end-end.ensures).within
-
-pub overflow_add-k : goal.overflow_add-k
-overflow_add-k c = omega (arith, c.loop-at.invariant.few)
-
-pub loop-at-smaller : goal.loop-at-smaller
-loop-at-smaller c = let e = c in
-    let s = step e.loop-at-test.true e.line_end-end.ensures c.next_line-at.ensures in
-    omega (arith, s.further, e.loop-at-test.true)
-
-pub loop-at-preserved : goal.loop-at-preserved
-loop-at-preserved c = let e = c in
-    checking_more e.loop-at.invariant (step e.loop-at-test.true e.line_end-end.ensures c.next_line-at.ensures)
-    (sym c.check_line-c.ensures ∙ c.in_default.is)
+pub loop-k-preserved : goal.loop-k-preserved
+loop-k-preserved c =
+    let s = c.in-Some.ensures.steps in
+    checking_more c.loop-k.invariant s.0 s.1 s.2 (sym c.check_line.ensures ∙ c.in_ok-check_line.was)
 
 pub returns : goal.returns
-returns c = checking_done c.loop-at.invariant c.loop-at-test.false
-
-pub slice_bounds-check_line-start : goal.slice_bounds-check_line-start
-slice_bounds-check_line-start c =
-    let e = line_ends _ c.loop-at.invariant.within c.line_end-end.ensures in
-    omega (arith, e.starts, e.within)
-
-pub slice_bounds-check_line-end : goal.slice_bounds-check_line-end
-slice_bounds-check_line-end c =
-    let e = line_ends _ c.loop-at.invariant.within c.line_end-end.ensures in
-    omega (arith, e.starts, e.within)
+returns c = checking_done c.loop-k.invariant c.in-None.ensures.steps.0.0

@@ -9,12 +9,9 @@ use Rattle.telling.proofs.Telling.{place-off, place_on}
 use Rattle.telling.proofs.put_place.Goals as goal
 
 pub returns-then-not-is_placed : goal.returns-then-not-is_placed
-returns-then-not-is_placed c = let z = c in
-    added_as (place-off z.args.counted.now z.args.place _ _ c.is_placed.ensures (ap not c.if-not-is_placed.true)) (added_none z.args.text.now z.args.at)
+returns-then-not-is_placed c = added_as (place-off c.args.counted.now c.args.place _ _ c.is_placed.ensures (ap not c.if-not-is_placed.true)) (added_none c.args.text.now c.args.at)
 
 pub returns : goal.returns
-returns c = let z = c in
-    let l = c in
-    let h : z.args.at ≤ length z.args.text.now = omega (arith, z.requires) in
-    added_as (place_on z.args.counted.now z.args.place _ _ l.is_placed.ensures (ap not l.if-not-is_placed.false))
+returns c = let h : c.args.at ≤ length c.args.text.now = omega (arith, c.requires) in
+    added_as (place_on c.args.counted.now c.args.place _ _ c.is_placed.ensures (ap not c.if-not-is_placed.false))
     (added_on h (added_on h (added_on h c.put-what.ensures c.put-blank.ensures) c.put-number.ensures) c.put_plain.ensures)

@@ -8,106 +8,102 @@ use Rattle.telling.specs.Telling.{placed, told_of}
 use Rattle.telling.proofs.Telling.{numbers-length, name_length, place-length, expected_length, told-length}
 use Rattle.telling.proofs.tell.Goals as goal
 
-pub put_place-colon-requires : goal.put_place-colon-requires
-put_place-colon-requires c = let z = c in
-    let two = c.numbers-two in
-    let p = c.put-name in
-    let n = c.put_name-spot in
+pub put-spot-requires : goal.put-spot-requires
+put-spot-requires c =
     omega (
       arith,
-      z.requires.0,
-      z.requires.1,
-      ap length two.ensures ∙ numbers-length z.args.reason z.args.place,
-      p.ensures.ends,
-      p.auto.text,
-      n.ensures.ends,
-      n.auto.text,
-      name_length z.args.reason,
+      c.requires.0,
+      c.requires.1,
+      ap length c.numbers-two.ensures ∙ numbers-length c.args.reason c.args.place,
+      c.put-start.ensures.ends,
+      c.put-start.auto.text,
+      ap length c.words.ensures.name,
+      name_length c.args.reason,
+    )
+
+pub put_place-colon-requires : goal.put_place-colon-requires
+put_place-colon-requires c =
+    omega (
+      arith,
+      c.requires.0,
+      c.requires.1,
+      ap length c.numbers-two.ensures ∙ numbers-length c.args.reason c.args.place,
+      c.put-start.ensures.ends,
+      c.put-start.auto.text,
+      ap length c.words.ensures.name,
+      name_length c.args.reason,
+      c.put-spot.ensures.ends,
+      c.put-spot.auto.text,
     )
 
 pub put-what-requires : goal.put-what-requires
-put-what-requires c = let z = c in
-    let two = c.numbers-two in
-    let p = c.put-name in
-    let n = c.put_name-spot in
-    let w = c.put_place-colon in
+put-what-requires c =
     omega (
       arith,
-      z.requires.0,
-      z.requires.1,
-      ap length two.ensures ∙ numbers-length z.args.reason z.args.place,
-      p.ensures.ends,
-      p.auto.text,
-      n.ensures.ends,
-      n.auto.text,
-      name_length z.args.reason,
-      w.ensures.ends,
-      w.auto.text,
-      place-length (placed z.args.reason) z.args.counted.now z.args.place,
+      c.requires.0,
+      c.requires.1,
+      ap length c.numbers-two.ensures ∙ numbers-length c.args.reason c.args.place,
+      c.put-start.ensures.ends,
+      c.put-start.auto.text,
+      ap length c.words.ensures.name,
+      name_length c.args.reason,
+      c.put-spot.ensures.ends,
+      c.put-spot.auto.text,
+      c.put_place-colon.ensures.ends,
+      c.put_place-colon.auto.text,
+      place-length (placed c.args.reason) c.args.counted.now c.args.place,
     )
 
-pub put_expected-end-requires : goal.put_expected-end-requires
-put_expected-end-requires c = let z = c in
-    let two = c.numbers-two in
-    let p = c.put-name in
-    let n = c.put_name-spot in
-    let w = c.put_place-colon in
-    let q = c.put-what in
+pub put-end-requires : goal.put-end-requires
+put-end-requires c =
     omega (
       arith,
-      z.requires.0,
-      z.requires.1,
-      ap length two.ensures ∙ numbers-length z.args.reason z.args.place,
-      p.ensures.ends,
-      p.auto.text,
-      n.ensures.ends,
-      n.auto.text,
-      name_length z.args.reason,
-      w.ensures.ends,
-      w.auto.text,
-      place-length (placed z.args.reason) z.args.counted.now z.args.place,
-      q.ensures.ends,
-      q.auto.text,
+      c.requires.0,
+      c.requires.1,
+      ap length c.numbers-two.ensures ∙ numbers-length c.args.reason c.args.place,
+      c.put-start.ensures.ends,
+      c.put-start.auto.text,
+      ap length c.words.ensures.name,
+      name_length c.args.reason,
+      c.put-spot.ensures.ends,
+      c.put-spot.auto.text,
+      c.put_place-colon.ensures.ends,
+      c.put_place-colon.auto.text,
+      place-length (placed c.args.reason) c.args.counted.now c.args.place,
+      c.put-what.ensures.ends,
+      c.put-what.auto.text,
+      ap length c.words.ensures.expected,
+      expected_length c.args.reason,
     )
 
 pub put-requires : goal.put-requires
-put-requires c = let z = c in
-    let two = c.numbers-two in
-    let p = c.put-name in
-    let n = c.put_name-spot in
-    let w = c.put_place-colon in
-    let q = c.put-what in
-    let e = c.put_expected-end in
+put-requires c =
     omega (
       arith,
-      z.requires.0,
-      z.requires.1,
-      ap length two.ensures ∙ numbers-length z.args.reason z.args.place,
-      p.ensures.ends,
-      p.auto.text,
-      n.ensures.ends,
-      n.auto.text,
-      name_length z.args.reason,
-      w.ensures.ends,
-      w.auto.text,
-      place-length (placed z.args.reason) z.args.counted.now z.args.place,
-      q.ensures.ends,
-      q.auto.text,
-      e.ensures.ends,
-      e.auto.text,
-      expected_length z.args.reason,
+      c.requires.0,
+      c.requires.1,
+      ap length c.numbers-two.ensures ∙ numbers-length c.args.reason c.args.place,
+      c.put-start.ensures.ends,
+      c.put-start.auto.text,
+      ap length c.words.ensures.name,
+      name_length c.args.reason,
+      c.put-spot.ensures.ends,
+      c.put-spot.auto.text,
+      c.put_place-colon.ensures.ends,
+      c.put_place-colon.auto.text,
+      place-length (placed c.args.reason) c.args.counted.now c.args.place,
+      c.put-what.ensures.ends,
+      c.put-what.auto.text,
+      ap length c.words.ensures.expected,
+      expected_length c.args.reason,
+      c.put-end.ensures.ends,
+      c.put-end.auto.text,
     )
 
 pub returns : goal.returns
 unfolding told_of
-returns c = let z = c in
-    let two = c.numbers-two in
-    let p = c.put-name in
-    let n = c.put_name-spot in
-    let w = c.put_place-colon in
-    let q = c.put-what in
-    let e = c.put_expected-end in
-    let t = c.put in
-    let h : 0 ≤ length z.args.text.now = omega arith in
-    added-written (omega (arith, told-length z.args.reason z.args.place z.args.counted.now z.requires.1, z.requires.0))
-    (added_on h (added_on h (added_on h (added_on h (added_on h (added_as two.ensures p.ensures) n.ensures) w.ensures) q.ensures) e.ensures) t.ensures)
+returns c =
+    let h : 0 ≤ length c.args.text.now = omega arith in
+    added-written (omega (arith, told-length c.args.reason c.args.place c.args.counted.now c.requires.1, c.requires.0))
+    (added_on h (added_on h (added_on h (added_on h (added_on h (added_as c.numbers-two.ensures c.put-start.ensures) (added_as c.words.ensures.name c.put-spot.ensures))
+    c.put_place-colon.ensures) c.put-what.ensures) (added_as c.words.ensures.expected c.put-end.ensures)) c.put.ensures)
