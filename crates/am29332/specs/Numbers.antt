@@ -1,5 +1,6 @@
 -- What the C interface answers: the numbers of the reason and its place, and what else an answer holds.
 use Rattle.std.specs.Prelude.{List, ℕ, Result, Ok, Err}
+use Rattle.std.specs.Result.{result_unwrap_or}
 use Rattle.reasons.specs.Reasons.{outcome_of, answer_numbers, check_numbers}
 use Rattle.reasons.specs.declared.Outcome.{Outcome}
 use Rattle.reasons.specs.declared.Refusal.{Refusal}
@@ -34,11 +35,6 @@ abbrev pub heading_numbers : Result SheetHeading Refusal → Heading
 heading_numbers (Ok h) = record { outcome = outcome_of Done 0; version = h.version; words = h.words; registers = h.registers }
 heading_numbers (Err refusal) = record { outcome = outcome_of refusal.reason refusal.place; version = 0; words = 0; registers = 0 }
 
--- how many bytes were written
-abbrev pub bytes_in : Result ℕ Refusal → ℕ
-bytes_in (Ok n) = n
-bytes_in (Err refusal) = 0
-
 -- ---- an answer and what was lent, together
 pub record Leaves (A : Type 0) : Type 0 where
   pub answer : A
@@ -51,9 +47,9 @@ leaves a lent = record { answer = a; lent = lent }
 abbrev pub pack_numbers : Packed → Leaves Outcome
 pack_numbers p = leaves (check_numbers p.check) p.bytes
 
--- listing and reading: how many bytes were written, and the buffer
+-- listing and reading: how many bytes were written, 0 of a refusal, and the buffer
 abbrev pub wrote_numbers : WroteBuffer → Leaves Wrote
-wrote_numbers w = leaves (record { outcome = check_numbers w.answer; bytes = bytes_in w.answer }) w.buffer
+wrote_numbers w = leaves (record { outcome = check_numbers w.answer; bytes = result_unwrap_or w.answer 0 }) w.buffer
 
 -- a run: Q and status, and the file of registers
 abbrev pub run_numbers : Ended → Leaves Ran

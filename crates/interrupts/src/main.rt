@@ -19,9 +19,10 @@ fn same_file(line: &Line, file: &[u32]) -> bool {
 
 // Whether the answer is the one that the line has.
 fn same_answer(line: &Line, answer: Served) -> bool {
-    reasons::number(answer.reason) == number_at(line, 4782, 2)
-        && answer.place == number_at(line, 4785, 8) as usize
-        && answer.mark == number_at(line, 4794, 2)
+    let outcome = answer.numbered();
+    outcome.reason == number_at(line, 4782, 2)
+        && outcome.place == number_at(line, 4785, 8) as u64
+        && answer.mark() == number_at(line, 4794, 2)
         && answer.machine.q == number_at(line, 4926, 8)
         && answer.machine.status == number_at(line, 4935, 8)
 }

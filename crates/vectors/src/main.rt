@@ -27,8 +27,9 @@ fn case(line: &Line) -> SingleWord {
 
 // Whether an answer is the one that the line has.
 fn same(line: &Line, answer: SingleAnswer) -> bool {
-    reasons::number(answer.reason) == number_at(line, 60, 2)
-        && answer.place == 0
+    let outcome = reasons::numbered_check(answer.check);
+    outcome.reason == number_at(line, 60, 2)
+        && outcome.place == 0
         && answer.parity == number_at(line, 63, 2)
         && answer.y == number_at(line, 66, 8)
         && answer.q == number_at(line, 75, 8)
