@@ -3,13 +3,8 @@
 // oracle/traces.sh, the text by the independent program.
 #![tactic(auto)]
 
-ghost use Rattle.std.specs.Prelude.{◌≤◌, length};
-ghost use Rattle.tracing.specs.Lines.{most_length};
-
 // The texts of the inputs one after another; an input that is cut short ends it.
-fn all(bundle: &[u8], text: &mut [u8])
-    requires { most_length ≤ length text.old }
-{
+fn all(bundle: &[u8], text: &mut [u8; tracing::MOST]) {
     let mut rest = bundle;
     while let Some((size, after)) = rest.split_first_chunk::<4>() {
         let n = u32::from_be_bytes(*size) as usize;
