@@ -46,6 +46,7 @@ fn line(index: usize, shown: Shown) -> [u8; LINE]
 }
 
 // The last line: reason and place.
+// Kept: telling::numbers ends in a blank. Both share text's digits; one more function for the rest would be no plainer.
 #[tactic(auto, unfolding(crate::specs::Lines::last_of))]
 fn last_line(reason: Reason, place: usize) -> [u8; LAST]
     ensures { result ≡ last_of reason place }
@@ -128,6 +129,7 @@ fn trace_run(input: &[u8], file: &mut [u32], text: &mut [u8]) -> usize
 
 // The trace of an input: all of its text at the start of a lent buffer, which has room for the longest; how many bytes it has. Bytes past them
 // stay.
+// Kept: a slice, and no array of MOST bytes, which would ask for exactly that length of a caller.
 #[tactic(auto, using(crate::proofs::Input::input_ready, crate::proofs::Input::room))]
 pub fn trace(input: &[u8], text: &mut [u8]) -> usize
     requires { most_length ≤ length text.old }
