@@ -93,7 +93,8 @@ def library_structs():
     interface = code("crates/am29332/src/lib.rt")
     used = {("am29332", name) for name in re.findall(r"pub struct (\w+)", interface)}
     for crate, one, several in re.findall(r"^use (\w+)::(?:(\w+)|\{(.*?)\});", interface, re.M | re.S):
-        used |= {(crate, name) for name in re.findall(r"\w+", one or several)}
+        enums = re.findall(r"pub enum (\w+)", code(f"crates/{crate}/src/lib.rt"))
+        used |= {(crate, name) for name in re.findall(r"\w+", one or several) if name not in enums}
     found = {}
     for path in sorted(glob.glob(os.path.join(ROOT, "crates/*/src/lib.rt"))):
         crate = path.split(os.sep)[-3]
@@ -215,8 +216,9 @@ def check_functions(functions, declared):
 
 
 def check_reasons(text):
-    number = re.search(r"pub fn number\(.*?\{(.*?)\n\}", code("crates/reasons/src/lib.rt"), re.S).group(1)
-    reasons = {name: int(value) for name, value in re.findall(r"Reason::(\w+) => (\d+)", number)}
+    # their numbers are their places
+    variants = re.search(r"pub enum Reason \{(.*?)\}", code("crates/reasons/src/lib.rt"), re.S).group(1)
+    reasons = {name: value for value, name in enumerate(re.findall(r"\w+", variants))}
     compare("reason", {name.upper(): value for name, value in reasons.items()},
             enumerators(text, "am29332_reason", "AM29332_REASON_"))
     given = dict(re.findall(r'case AM29332_REASON_(\w+): return "(\w+)"', text))
@@ -267,7 +269,7 @@ def check_mnemonics():
     """The mnemonics of the listing against the glossary's names. The code has them in columns of one width."""
     source, definitions = "crates/mnemonics/src/lib.rt", "crates/mnemonics/specs/Mnemonics.antt"
     width = number_in(source, r"pub const COLUMN: usize = (\d+);")
-    columns = re.findall(r'\*b"([^"]*)"', code(source).split("const MNEMONICS")[1].split("\n];")[0])
+    columns = re.findall(r'\*b"([^"]*)"', code(source).split("static MNEMONICS")[1].split("\n];")[0])
     named = re.findall(r'"([^"]*)"', read(definitions).split("mnemonics =\n")[1].split("[]")[0])
     names = glossary()
     for path, found, wanted in ((source, columns, [name.ljust(width) for name in names]), (definitions, named, names)):
