@@ -12,7 +12,7 @@ use Rattle.chip.specs.Single.{single_of}
 use Rattle.packing.specs.Packing.{pack_of, unpack_of}
 use Rattle.sheet.specs.Sheet.{check_of}
 use Rattle.sheet.specs.Heading.{heading_of}
-use Rattle.sheet.specs.declared.Given.TheVariants.{Absent}
+use Rattle.std.proofs.Common.{None}
 use Rattle.handler.specs.Form.{handler_of}
 use Rattle.listing.specs.Lister.{list_of}
 use Rattle.reading.specs.Reader.{read_of}
@@ -44,8 +44,8 @@ one-unpack bytes = one_answer (unpack_numbers (unpack_of bytes))
 pub one-read-header : (sheet : List ℕ) → OneAnswer (heading_numbers (heading_of sheet))
 one-read-header sheet = one_answer (heading_numbers (heading_of sheet))
 
-pub one-check_sheet : (sheet : List ℕ) → OneAnswer (check_numbers (check_of sheet Absent Absent))
-one-check_sheet sheet = one_answer (check_numbers (check_of sheet Absent Absent))
+pub one-check_sheet : (sheet : List ℕ) → OneAnswer (check_numbers (check_of sheet None None))
+one-check_sheet sheet = one_answer (check_numbers (check_of sheet None None))
 
 pub one-check_handler : (sheet : List ℕ) → OneAnswer (check_numbers (handler_of sheet))
 one-check_handler sheet = one_answer (check_numbers (handler_of sheet))

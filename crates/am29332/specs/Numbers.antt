@@ -1,15 +1,18 @@
 -- What the C interface answers: the numbers of the reason and its place, and what else an answer holds.
-use Rattle.std.specs.Prelude.{List, ℕ}
-use Rattle.reasons.specs.Reasons.{outcome_of, check_numbers}
+use Rattle.std.specs.Prelude.{List, ℕ, Result, Ok, Err}
+use Rattle.std.specs.Result.{result_unwrap_or}
+use Rattle.reasons.specs.Reasons.{outcome_of, answer_numbers, check_numbers}
 use Rattle.reasons.specs.declared.Outcome.{Outcome}
+use Rattle.reasons.specs.declared.Refusal.{Refusal}
+use Rattle.reasons.specs.declared.Reason.TheVariants.{Done}
 use Rattle.reasons.specs.Output.{Wrote as WroteBuffer}
 use Rattle.chip.specs.declared.SingleAnswer.{SingleAnswer}
-use Rattle.packing.specs.declared.Unpacked.{Unpacked as UnpackedWord}
-use Rattle.packing.specs.Packing.{Packed}
+use Rattle.chip.specs.declared.Word.{Word}
+use Rattle.packing.specs.Packing.{Packed, word_or_blank}
 use Rattle.sheet.specs.declared.Heading.{Heading as SheetHeading}
 use Rattle.run.specs.Run.{Ended}
 use Rattle.run.specs.Step.{Halted}
-use Rattle.interrupt.specs.Interrupt.{Left}
+use Rattle.interrupt.specs.Interrupt.{Left, mark_in, served_numbers}
 use Rattle.am29332.specs.declared.Answer.{Answer}
 use Rattle.am29332.specs.declared.Unpacked.{Unpacked}
 use Rattle.am29332.specs.declared.Heading.{Heading}
@@ -21,15 +24,16 @@ use Rattle.am29332.specs.declared.Interrupted.{Interrupted}
 -- a single word's answer: Y, parity, Q, status and pins besides
 abbrev pub single_numbers : SingleAnswer → Answer
 single_numbers a =
-    record { outcome = outcome_of a.reason a.place; y = a.y; parity = a.parity; q = a.q; status = a.status; pins = a.pins }
+    record { outcome = check_numbers a.check; y = a.y; parity = a.parity; q = a.q; status = a.status; pins = a.pins }
 
--- an unpacked word: its fields besides
-abbrev pub unpack_numbers : UnpackedWord → Unpacked
-unpack_numbers u = record { outcome = check_numbers u.check; word = u.word }
+-- an unpacked word: its fields besides, which are 0 where it is refused
+abbrev pub unpack_numbers : Result Word Refusal → Unpacked
+unpack_numbers u = record { outcome = check_numbers u; word = word_or_blank u }
 
--- a header: its version and its two counts besides
-abbrev pub heading_numbers : SheetHeading → Heading
-heading_numbers h = record { outcome = check_numbers h.check; version = h.version; words = h.words; registers = h.registers }
+-- a header: its version and its two counts besides, which are 0 where it is refused
+abbrev pub heading_numbers : Result SheetHeading Refusal → Heading
+heading_numbers (Ok h) = record { outcome = outcome_of Done 0; version = h.version; words = h.words; registers = h.registers }
+heading_numbers (Err refusal) = record { outcome = outcome_of refusal.reason refusal.place; version = 0; words = 0; registers = 0 }
 
 -- ---- an answer and what was lent, together
 pub record Leaves (A : Type 0) : Type 0 where
@@ -43,20 +47,20 @@ leaves a lent = record { answer = a; lent = lent }
 abbrev pub pack_numbers : Packed → Leaves Outcome
 pack_numbers p = leaves (check_numbers p.check) p.bytes
 
--- listing and reading: how many bytes were written, and the buffer
+-- listing and reading: how many bytes were written, 0 of a refusal, and the buffer
 abbrev pub wrote_numbers : WroteBuffer → Leaves Wrote
-wrote_numbers w = leaves (record { outcome = check_numbers w.answer.check; bytes = w.answer.bytes }) w.buffer
+wrote_numbers w = leaves (record { outcome = check_numbers w.answer; bytes = result_unwrap_or w.answer 0 }) w.buffer
 
 -- a run: Q and status, and the file of registers
 abbrev pub run_numbers : Ended → Leaves Ran
-run_numbers e = leaves (record { outcome = outcome_of e.answer.reason e.answer.place; machine = e.answer.machine }) e.file
+run_numbers e = leaves (record { outcome = answer_numbers e.answer.outcome; machine = e.answer.machine }) e.file
 
 -- one word of a sheet: Y, parity and pins besides
 abbrev pub step_numbers : Halted → Leaves Stepped
 step_numbers e =
     leaves
     (record {
-      outcome = outcome_of e.answer.reason e.answer.place;
+      outcome = answer_numbers e.answer.outcome;
       y = e.answer.y;
       parity = e.answer.parity;
       machine = e.answer.machine;
@@ -68,5 +72,5 @@ step_numbers e =
 abbrev pub interrupted_numbers : Left → Leaves Interrupted
 interrupted_numbers e =
     leaves
-    (record { outcome = outcome_of e.answer.reason e.answer.place; machine = e.answer.machine; mark = e.answer.mark })
+    (record { outcome = served_numbers e.answer.outcome; machine = e.answer.machine; mark = mark_in e.answer.outcome })
     e.file

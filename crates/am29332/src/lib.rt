@@ -10,7 +10,6 @@ ghost use Rattle.chip.specs.Single.{single_of};
 ghost use Rattle.packing.specs.Packing.{pack_of, unpack_of};
 ghost use Rattle.sheet.specs.Sheet.{check_of};
 ghost use Rattle.sheet.specs.Heading.{heading_of};
-ghost use Rattle.sheet.specs.declared.Given.TheVariants.{Absent};
 ghost use Rattle.handler.specs.Form.{handler_of};
 ghost use Rattle.listing.specs.Lister.{list_of};
 ghost use Rattle.reading.specs.Reader.{read_of};
@@ -23,7 +22,7 @@ ghost use Rattle.am29332.specs.Version.{library_version};
 
 use chip::{SingleWord, Word};
 use machine::Machine;
-use reasons::Outcome;
+use reasons::{Outcome, Reason};
 
 // What a single word answers. The parity has a bit for each byte of Y, the highest byte's in bit 3; the pins C, Z, N, V and L are bits 4 to 0.
 #[repr(C)]
@@ -114,9 +113,8 @@ pub extern "C" fn am29332_single_word(inputs: SingleWord) -> Answer
     ensures pins { result.pins ≡ pins_in result.status }
 {
     let answer = chip::single_word(inputs);
-    let reason = answer.reason;
     Answer {
-        outcome: reasons::numbered(reason, answer.place),
+        outcome: reasons::numbered_check(answer.check),
         y: answer.y,
         parity: answer.parity,
         q: answer.q,
@@ -138,12 +136,10 @@ pub extern "C" fn am29332_pack(word: Word, bytes: &mut [u8]) -> Outcome
 pub extern "C" fn am29332_unpack(bytes: &[u8]) -> Unpacked
     ensures { result ≡ unpack_numbers (unpack_of bytes.now) }
 {
-    let answer = packing::unpack(bytes);
-    let check = answer.check;
-    let word = answer.word;
+    let unpacked = packing::unpack(bytes);
     Unpacked {
-        outcome: reasons::numbered_check(check),
-        word,
+        outcome: reasons::numbered_check(unpacked),
+        word: packing::word_or_blank(unpacked),
     }
 }
 
@@ -152,20 +148,26 @@ pub extern "C" fn am29332_unpack(bytes: &[u8]) -> Unpacked
 pub extern "C" fn am29332_read_header(sheet: &[u8]) -> Heading
     ensures { result ≡ heading_numbers (heading_of sheet.now) }
 {
-    let heading = sheet::read_header(sheet);
-    let check = heading.check;
-    Heading {
-        outcome: reasons::numbered_check(check),
-        version: heading.version,
-        words: heading.words,
-        registers: heading.registers,
+    match sheet::read_header(sheet) {
+        Ok(heading) => Heading {
+            outcome: reasons::numbered(Reason::Done, 0),
+            version: heading.version,
+            words: heading.words,
+            registers: heading.registers,
+        },
+        Err(refusal) => Heading {
+            outcome: Outcome::from(refusal),
+            version: 0,
+            words: 0,
+            registers: 0,
+        },
     }
 }
 
 // A sheet on its own: no file is lent and no start word given.
 #[unsafe(no_mangle)]
 pub extern "C" fn am29332_check_sheet(sheet: &[u8]) -> Outcome
-    ensures { result ≡ check_numbers (check_of sheet.now Absent Absent) }
+    ensures { result ≡ check_numbers (check_of sheet.now None None) }
 {
     reasons::numbered_check(sheet::check_sheet(sheet))
 }
@@ -184,10 +186,9 @@ pub extern "C" fn am29332_list_sheet(sheet: &[u8], text: &mut [u8]) -> Wrote
     ensures { leaves result text.new ≡ wrote_numbers (list_of sheet.now text.old) }
 {
     let listed = listing::list(sheet, text);
-    let check = listed.check;
     Wrote {
-        outcome: reasons::numbered_check(check),
-        bytes: listed.bytes as u64,
+        outcome: reasons::numbered_check(listed),
+        bytes: listed.unwrap_or(0) as u64,
     }
 }
 
@@ -197,10 +198,9 @@ pub extern "C" fn am29332_read_listing(text: &[u8], sheet: &mut [u8]) -> Wrote
     ensures { leaves result sheet.new ≡ wrote_numbers (read_of text.now sheet.old) }
 {
     let read = reading::read(text, sheet);
-    let check = read.check;
     Wrote {
-        outcome: reasons::numbered_check(check),
-        bytes: read.bytes as u64,
+        outcome: reasons::numbered_check(read),
+        bytes: read.unwrap_or(0) as u64,
     }
 }
 
@@ -218,11 +218,9 @@ pub extern "C" fn am29332_run(
         → leaves result file.new ≡ run_numbers (in_parts sheet.now file.old machine start a b) }
 {
     let answer = run::run(sheet, file, machine, start as usize, allowance as usize);
-    let reason = answer.reason;
-    let after = answer.machine;
     Ran {
-        outcome: reasons::numbered(reason, answer.place),
-        machine: after,
+        outcome: reasons::numbered_answer(answer.outcome),
+        machine: answer.machine,
     }
 }
 
@@ -238,13 +236,11 @@ pub extern "C" fn am29332_step(
     ensures pins { result.pins ≡ pins_in result.machine.status }
 {
     let answer = run::one_word(sheet, file, machine, start as usize);
-    let reason = answer.reason;
-    let after = answer.machine;
     Stepped {
-        outcome: reasons::numbered(reason, answer.place),
+        outcome: reasons::numbered_answer(answer.outcome),
         y: answer.y,
         parity: answer.parity,
-        machine: after,
+        machine: answer.machine,
         pins: answer.pins,
     }
 }
@@ -264,11 +260,9 @@ pub extern "C" fn am29332_interrupted_run<'a>(
         → NoTrace main.now handler.now schedule.now file.old machine result.machine file.new }
 {
     let answer = interrupt::interrupted(main, handler, schedule, file, machine);
-    let reason = answer.reason;
-    let after = answer.machine;
     Interrupted {
-        outcome: reasons::numbered(reason, answer.place),
-        machine: after,
-        mark: answer.mark,
+        outcome: answer.numbered(),
+        machine: answer.machine,
+        mark: answer.mark(),
     }
 }

@@ -176,3 +176,6 @@ carries-read a b c ha hb hc =
     ones_law 8 (bit_or (bit_xor (rest a b c + 0x6666_6666) (rest a b c)) x / 16)
     ∙ carry_chain 8 s a b c 0 (rest a b c) (rest a b c + 0x6666_6666) (omega arith) refl (and_compl 64 s (bit_and (x / 2 ^ 1) 0x8888_8888) (omega arith) m) (sym (add-zero _))
     ∙ ap (nibble_carries 8 a b) (add-zero c)
+
+-- with the bounds that a mask gives
+pub ruleset reading = (carries-read, borrows-read, and_le_l, and_le_r)

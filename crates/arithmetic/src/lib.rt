@@ -6,19 +6,20 @@ mod nibbles; // the nibble bits
 
 ghost use Rattle.std.specs.Prelude.{◌≡◌, ◌+◌, ◌%◌, ◌^◌, ◌<◌, get_or};
 ghost use Rattle.machine.specs.Inputs.{Sound};
-ghost use Rattle.arithmetic.specs.Arithmetic.{added, sum, difference, increment, decrement, negate, ADD, ADDC, SUB, SUBC, SUBR, SUBRC};
+ghost use Rattle.arithmetic.specs.Arithmetic.{added, sum, difference, increment, decrement, negate, borrow_in, ADD, ADDC, SUB, SUBC, SUBR, SUBRC};
 ghost use Rattle.arithmetic.specs.Decimal.{corrected, top_nibble, correction, sum_correct, diff_correct, decimals, DIFF-CORR-B};
 
 use machine::{Inputs, Outputs};
 
 // What a sum p + r + c leaves, from its wrapped value s: cut to the selected bytes, C and V worked out apart. C is inverted where i is 1.
+#[tactic(auto, using(crate::proofs::Bounds::wrapping))]
 fn added(x: Inputs, p: u32, r: u32, c: u32, i: u32, s: u32, nibbles: u32, u: u32) -> Outputs
     requires { Sound x × (c < 2) × (i < 2) × (s ≡ (p + r + c) % 2 ^ 32) }
     ensures { result ≡ added x p r c i nibbles u }
 {
     let n = x.bits();
     let exact = bits::sum(p, r, c);
-    let mut status = x.held();
+    let mut status = x.status.held();
     status.z = bits::is_zero(s, n);
     status.n = bits::sign(s, n);
     status.c = (bits::carry(p, r, c, exact, n) + i) % 2;
@@ -32,6 +33,7 @@ fn added(x: Inputs, p: u32, r: u32, c: u32, i: u32, s: u32, nibbles: u32, u: u32
 }
 
 // p + r + c in the selected bytes, u in the others.
+#[tactic(auto, unfolding(crate::specs::Arithmetic::sum))]
 fn sum(x: Inputs, p: u32, r: u32, c: u32, i: u32, u: u32) -> Outputs
     requires { Sound x × (c < 2) × (i < 2) }
     ensures { result ≡ sum x p r c i u }
@@ -42,6 +44,7 @@ fn sum(x: Inputs, p: u32, r: u32, c: u32, i: u32, u: u32) -> Outputs
 }
 
 // p - r where c is 1, and one less where it is 0.
+#[tactic(auto, unfolding(crate::specs::Arithmetic::difference))]
 fn difference(x: Inputs, p: u32, r: u32, c: u32, u: u32) -> Outputs
     requires { Sound x × (c < 2) }
     ensures { result ≡ difference x p r c u }
@@ -96,12 +99,19 @@ pub fn subtract(x: Inputs) -> Outputs
     difference(x, x.a, x.b, 1, x.b)
 }
 
-// In borrow mode the carry taken in, macro or micro, is inverted before it enters the adder.
+// The carry taken in, macro or micro: in borrow mode it is inverted before it enters the adder.
+fn borrow_in(x: Inputs) -> u32
+    requires { Sound x }
+    ensures { (result ≡ borrow_in x) × (result < 2) }
+{
+    (x.carry_in() + x.borrow) % 2
+}
+
 pub fn subtract_with_carry(x: Inputs) -> Outputs
     requires { Sound x }
     ensures { result ≡ SUBC x }
 {
-    difference(x, x.a, x.b, (x.carry_in() + x.borrow) % 2, x.b)
+    difference(x, x.a, x.b, borrow_in(x), x.b)
 }
 
 pub fn subtract_reverse(x: Inputs) -> Outputs
@@ -115,7 +125,7 @@ pub fn subtract_reverse_with_carry(x: Inputs) -> Outputs
     requires { Sound x }
     ensures { result ≡ SUBRC x }
 {
-    difference(x, x.b, x.a, (x.carry_in() + x.borrow) % 2, x.b)
+    difference(x, x.b, x.a, borrow_in(x), x.b)
 }
 
 // What a correction leaves, from its wrapped value r; V is of the two most significant selected nibble bits.
@@ -124,7 +134,7 @@ fn corrected(x: Inputs, r: u32, c: u32, s: u32) -> Outputs
     ensures { result ≡ corrected x r c s }
 {
     let n = x.bits();
-    let mut status = x.held();
+    let mut status = x.status.held();
     status.z = bits::is_zero(r, n);
     status.n = bits::sign(r, n);
     status.c = c;
@@ -137,6 +147,7 @@ fn corrected(x: Inputs, r: u32, c: u32, s: u32) -> Outputs
 }
 
 // The most significant nibble bit of the selected bytes.
+#[tactic(auto, using(crate::proofs::Bounds::wrapping))]
 fn top_nibble(x: Inputs) -> u32
     requires { Sound x }
     ensures { (result ≡ top_nibble x) × (result < 2) }
@@ -145,6 +156,7 @@ fn top_nibble(x: Inputs) -> u32
 }
 
 // The correction word: a 6 in each nibble whose bit is set.
+#[tactic(auto, using(crate::proofs::Bounds::spread_six))]
 fn correction(x: Inputs) -> u32
     requires { Sound x }
     ensures { result ≡ correction x }
@@ -153,6 +165,7 @@ fn correction(x: Inputs) -> u32
 }
 
 // SUM-CORR-A, SUM-CORR-B
+#[tactic(auto, using(crate::proofs::Bounds::wrapping), unfolding(crate::specs::Decimal::sum_correct))]
 fn sum_correct(x: Inputs, s: u32) -> Outputs
     requires { Sound x }
     ensures { result ≡ sum_correct x s }
@@ -162,6 +175,7 @@ fn sum_correct(x: Inputs, s: u32) -> Outputs
 }
 
 // DIFF-CORR-A, DIFF-CORR-B: C is the EX-NOR of the most significant nibble borrow and borrow mode.
+#[tactic(auto, using(crate::proofs::Bounds::wrapping), unfolding(crate::specs::Decimal::diff_correct))]
 fn diff_correct(x: Inputs, s: u32) -> Outputs
     requires { Sound x }
     ensures { result ≡ diff_correct x s }

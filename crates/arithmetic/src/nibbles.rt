@@ -13,6 +13,7 @@ const SIXES: u64 = 0x6666_6666;
 
 // The nibble carries of a + b + c: a nibble carries where the binary sum does, and where its six more do. A nibble that has carried is left
 // without its 8, so that its sixes carry no second time.
+#[tactic(auto, using(crate::proofs::Chains::reading))]
 pub fn nibble_carries(a: u32, b: u32, c: u32, s: u64) -> u32
     requires { (c < 2) × (s ≡ a + b + c) }
     ensures { result ≡ nibble_carries 8 a b c }
@@ -23,6 +24,7 @@ pub fn nibble_carries(a: u32, b: u32, c: u32, s: u64) -> u32
 }
 
 // The nibble borrows of a - b, one less where c is 0: the complements of the binary carries of a, the complement of b, and c.
+#[tactic(auto, using(crate::proofs::Chains::reading))]
 pub fn nibble_borrows(a: u32, b: u32, c: u32, s: u64) -> u32
     requires { (c < 2) × (s ≡ a + not_of b + c) }
     ensures { result ≡ nibble_borrows 8 a b (1 - c) }

@@ -88,3 +88,5 @@ overflow-read n a b c h l hc =
     bit_wrap (n - 1) (bit_xor x (x / 2 ^ 1)) (omega arith)
     ∙ bit-xor (n - 1) x (x / 2 ^ 1)
     ∙ ap₂ xor (carry-bit (n - 1) a b c hc) (ap (λ (y : ℕ). y % 2) (shr-shr x 1 (n - 1) ∙ ap (λ (k : ℕ). x / 2 ^ k) e) ∙ carry-bit n a b c hc)
+
+pub ruleset reads = (carry-read, overflow-read)

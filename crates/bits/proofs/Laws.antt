@@ -1,11 +1,12 @@
 -- Laws over the number n of selected bits: what the code's masks and shifts are as quotients and remainders.
-use Rattle.std.proofs.Common.{◌≡◌, ℕ, zero, suc, ◌+◌, ◌-◌, ◌*◌, ◌/◌, ◌%◌, ◌^◌, ◌<◌, ◌≤◌, min, eqb, sym, refl, ap, ◌∙◌, subst, ap₂, add-zero, mod-lt, mod-eq_of_lt, mul_assoc, mul_comm, div-lt_iff_lt-mul, add-mul, one-mul, pow-suc, zero-mul, arith, lit<, pow_pos, pow-add, shr-shr, shr_lt, ne_eqb}
-use native.Mathlib.Nat.{mod-add-mod, add-mod_right, mul-mod_left}
+use Rattle.std.proofs.Common.{◌≡◌, ℕ, zero, suc, ◌+◌, ◌-◌, ◌*◌, ◌/◌, ◌%◌, ◌^◌, ◌<◌, ◌≤◌, min, w32, eqb, sym, refl, ap, ◌∙◌, subst, ap₂, add-zero, mod-lt, mod-eq_of_lt, mul_assoc, mul_comm, div-lt_iff_lt-mul, add-mul, one-mul, pow-suc, zero-mul, arith, lit<, pow_pos, pow-add, shr-shr, shr_lt, ne_eqb}
+use native.Mathlib.Nat.{mul-mod_left}
+use Rattle.std.specs.Int.{rotate_left}
 use lib.Arith.{lt-one}
 use lib.Pow.{pow-lt, split, field, high, ones_split, ones_lt, shr_mod, shl-shr, mod-pow-add, mod-mod-pow}
-use lib.Bits.{bit_and, bit_or, and_step, or_step, or_zero_r, and_mask, and_high, or_block, or_shifted, or_shifted_r}
+use lib.Bits.{bit_and, bit_or, or_self, and_step, or_step, or_zero_r, and_mask, and_high, or_block, or_shifted, or_shifted_r}
 use lib.Count.{count_leading_zeros, leading_length, leading_unique}
-use Rattle.bits.specs.Bits.{bytes4, choose, flag, merged, carry_of, zero_of, bit_of, rotated_up, put_bit}
+use Rattle.bits.specs.Bits.{choose, flag, merged, carry_of, zero_of, bit_of, rotated_up, put_bit}
 
 -- all ones, shifted down so that n are left
 pub ones_shr : (n : ℕ) → n ≤ 32 → (2 ^ 32 - 1) / 2 ^ (32 - n) ≡ 2 ^ n - 1
@@ -87,18 +88,26 @@ top-zero n x = scaled (x % 2 ^ n) (2 ^ (32 - n)) (pow_pos (32 - n))
     scaled zero P h = ap (λ (q : ℕ). eqb q 0) (zero-mul P)
     scaled (suc y) P h = ne_eqb (suc y * P) 0 (λ (e : suc y * P ≡ 0). omega arith) ∙ sym (ne_eqb (suc y) 0 (λ (e : suc y ≡ 0). omega arith))
 
-pub rotate_law : (k x : ℕ) → k ≤ 32 → x < 2 ^ 32 → bit_or ((x * 2 ^ k) % 2 ^ 32) (x / 2 ^ (32 - k)) ≡ rotated_up k x
+-- the two parts of a word that is rotated, exchanged
+pub rotate_law : (k x : ℕ) → k < 32 → x < 2 ^ 32 → rotate_left w32 x k ≡ rotated_up k x
 unfolding rotated_up
-rotate_law k x h hx =
+rotate_law zero x h hx =
+    let up : x * 2 ^ 0 % 2 ^ 32 ≡ x = omega arith in
+    let down : x / 2 ^ 0 ≡ x = omega arith in
+    ap₂ bit_or up down ∙ or_self x ∙ omega arith
+rotate_law (suc j) x h hx =
+    let k : ℕ = suc j in
     let e : k + (32 - k) ≡ 32 = omega arith in
-    ap (λ (y : ℕ). bit_or y (x / 2 ^ (32 - k))) (shl_law k x h)
-    ∙ or_shifted (x % 2 ^ (32 - k)) k (x / 2 ^ (32 - k)) (shr_lt k (32 - k) (subst (λ (m : ℕ). x < 2 ^ m) (sym e) hx))
+    let m : k % 32 ≡ k = mod-eq_of_lt h in
+    let n : (32 - k) % 32 ≡ 32 - k = mod-eq_of_lt (omega arith) in
+    rw (m, n) (ap (λ (y : ℕ). bit_or y (x / 2 ^ (32 - k))) (shl_law k x (omega arith))
+    ∙ or_shifted (x % 2 ^ (32 - k)) k (x / 2 ^ (32 - k)) (shr_lt k (32 - k) (subst (λ (m : ℕ). x < 2 ^ m) (sym e) hx)))
 
--- the zeros above n bits are leading ones of 32
-pub lz_low : (n x : ℕ) → n ≤ 32 → x < 2 ^ n → count_leading_zeros 32 x ≡ count_leading_zeros n x + (32 - n)
-lz_low n x h hx =
-    let l = leading_length n x hx in
-    sym (leading_unique 32 x (count_leading_zeros n x + (32 - n)) l.0 (omega arith) l.2 l.3)
+-- the leading zeros of a word cut to n bits, as 32 bits and as n
+pub leading_zeros : (n x : ℕ) → n ≤ 32 → count_leading_zeros 32 (x % 2 ^ n) ≡ count_leading_zeros n (x % 2 ^ n) + (32 - n)
+leading_zeros n x h =
+    let l = leading_length n (x % 2 ^ n) (mod-lt x (pow_pos n)) in
+    sym (leading_unique 32 (x % 2 ^ n) (count_leading_zeros n (x % 2 ^ n) + (32 - n)) l.0 (omega arith) l.2 l.3)
 
 -- a bit or'ed in
 pub or-one : (y : ℕ) → bit_or y 1 ≡ y / 2 * 2 + 1
@@ -158,22 +167,6 @@ put-zero i x h hx =
 pub one_shl : (i : ℕ) → i < 32 → (1 * 2 ^ i) % 2 ^ 32 ≡ 2 ^ i
 one_shl i h = ap (λ (x : ℕ). x % 2 ^ 32) (one-mul (2 ^ i)) ∙ mod-eq_of_lt (pow-lt h)
 
--- a wrapped difference as a remainder
-pub diff_wrap : (x y r : ℕ) → x < 2 ^ 32 → y < 2 ^ 32 → r < 2 ^ 32 → (r + y) % 2 ^ 32 ≡ x → r ≡ (x + (2 ^ 32 - y)) % 2 ^ 32
-diff_wrap x y r hx hy hr e = omega arith
-
--- two wrapped differences as one wrapped sum with the complement
-pub sub_wrap : (a b c r s : ℕ) → a < 2 ^ 32 → b < 2 ^ 32 → c < 2 → r < 2 ^ 32 → s < 2 ^ 32 → (r + b) % 2 ^ 32 ≡ a → (s + (1 - c)) % 2 ^ 32 ≡ r → s ≡ (a + ((2 ^ 32 - 1) - b) + c) % 2 ^ 32
-sub_wrap a b c r s ha hb hc hr hs e f =
-    diff_wrap r (1 - c) s hr (omega arith) hs f
-    ∙ ap (λ (x : ℕ). (x + (2 ^ 32 - (1 - c))) % 2 ^ 32) (diff_wrap a b r ha hb hr e)
-    ∙ mod-add-mod (a + (2 ^ 32 - b)) (2 ^ 32) (2 ^ 32 - (1 - c))
-    ∙ ap (λ (x : ℕ). x % 2 ^ 32) (shape a b c hb hc)
-    ∙ add-mod_right (a + ((2 ^ 32 - 1) - b) + c) (2 ^ 32)
-  where
-    shape : (a b c : ℕ) → b < 2 ^ 32 → c < 2 → a + (2 ^ 32 - b) + (2 ^ 32 - (1 - c)) ≡ a + ((2 ^ 32 - 1) - b) + c + 2 ^ 32
-    shape a b c hb hc = omega arith
-
 -- a choice by a number that is 0, and by one that is not
 pub choose-zero {ℓ} : {A : Type ℓ} (f : ℕ) (a b : A) → f ≡ 0 → choose f a b ≡ a
 choose-zero f a b e = ap (λ (k : ℕ). choose k a b) e
@@ -182,24 +175,9 @@ pub choose_one {ℓ} : {A : Type ℓ} (f : ℕ) (a b : A) → (f ≡ 0 → ⊥) 
 choose_one zero a b h = absurd (h refl)
 choose_one (suc k) a b h = refl
 
--- ---- four bytes, as the code reads them
--- the first lowest
-abbrev low4 : ℕ → ℕ → ℕ → ℕ → ℕ
-low4 b0 b1 b2 b3 = b0 + b1 * 2 ^ 8 + b2 * 2 ^ 16 + b3 * 2 ^ 24
+-- what the code's single bits, masks and bits at the top are
+pub ruleset one_bit = (and-bit, put_one, put-zero, one_shl)
 
--- turned, the first stands highest
-pub turned-low : (b0 b1 b2 b3 v : ℕ) → b0 < 256 → b1 < 256 → b2 < 256 → b3 < 256 → v ≡ low4 b0 b1 b2 b3
-    → bytes4 (v % 2 ^ 8) (v / 2 ^ 8 % 2 ^ 8) (v / 2 ^ 16 % 2 ^ 8) (v / 2 ^ 24) ≡ bytes4 b0 b1 b2 b3
-turned-low b0 b1 b2 b3 v h0 h1 h2 h3 e = rw (e, e0, e1, e2, e3) refl
-  where
-    e0 : low4 b0 b1 b2 b3 % 2 ^ 8 ≡ b0
-    e0 = omega arith
+pub ruleset masks = (and_mask)
 
-    e1 : low4 b0 b1 b2 b3 / 2 ^ 8 % 2 ^ 8 ≡ b1
-    e1 = omega arith
-
-    e2 : low4 b0 b1 b2 b3 / 2 ^ 16 % 2 ^ 8 ≡ b2
-    e2 = omega arith
-
-    e3 : low4 b0 b1 b2 b3 / 2 ^ 24 ≡ b3
-    e3 = omega arith
+pub ruleset top_bits = (top-sign, top-zero)

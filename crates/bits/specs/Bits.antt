@@ -1,6 +1,6 @@
 -- A data word as a plain number below 2 ^ 32, and what the manual's pages say of one: selected bytes, sums with their carry and overflow,
 -- masks, rotates, fields, priority and parity. n is a count of selected bits, from the low end; a flag is 0 or 1.
-use Rattle.std.specs.Prelude.{ℕ, zero, suc, ◌+◌, ◌-◌, ◌*◌, ◌/◌, ◌%◌, ◌^◌, Bool, true, false, ◌==◌}
+use Rattle.std.specs.Prelude.{List, get_or, ℕ, zero, suc, ◌+◌, ◌-◌, ◌*◌, ◌/◌, ◌%◌, ◌^◌, Bool, true, false, ◌==◌}
 use Rattle.std.specs.Int.Bits.{bit_and, bit_or}
 use Rattle.std.specs.Int.Count.{ones, count_leading_zeros}
 
@@ -46,6 +46,10 @@ merged n s u = u / 2 ^ n * 2 ^ n + s % 2 ^ n
 -- four bytes as one word, the first highest
 abbrev pub bytes4 : ℕ → ℕ → ℕ → ℕ → ℕ
 bytes4 b0 b1 b2 b3 = b0 * 2 ^ 24 + b1 * 2 ^ 16 + b2 * 2 ^ 8 + b3
+
+-- the four from a place on
+abbrev pub bytes4_at : List ℕ → ℕ → ℕ
+bytes4_at s i = bytes4 (get_or s i 0) (get_or s (i + 1) 0) (get_or s (i + 2) 0) (get_or s (i + 3) 0)
 
 -- the one's complement of a word
 abbrev pub not_of : ℕ → ℕ

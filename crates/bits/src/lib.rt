@@ -2,8 +2,8 @@
 // nothing above uses a mask on data. They are public for the crates above; a `requires` keeps n, a count of selected bits, in range.
 #![tactic(auto)]
 
-ghost use Rattle.std.specs.Prelude.{◌≡◌, ◌+◌, ◌-◌, ◌*◌, ◌/◌, ◌%◌, ◌^◌, ◌<◌, ◌≤◌, count_ones};
-ghost use Rattle.bits.specs.Bits.{bytes4, selected, bit_of, sign_of, zero_of, merged, not_of, copies, carry_of, overflow_of, up_by, rotated_up, field_mask, masked_of, put_bit, priority_of, parity_of};
+ghost use Rattle.std.specs.Prelude.{◌≡◌, ◌+◌, ◌-◌, ◌*◌, ◌/◌, ◌%◌, ◌^◌, ◌<◌, ◌≤◌, length, count_ones};
+ghost use Rattle.bits.specs.Bits.{bytes4, bytes4_at, selected, bit_of, sign_of, zero_of, merged, not_of, copies, choose, carry_of, overflow_of, up_by, rotated_up, field_mask, masked_of, put_bit, priority_of, parity_of};
 
 // How many bits a byte code selects (tables 3 and 5): eight less than 32 for each byte missing, so that no test is needed for code 0.
 pub fn selected_bits(code: u32) -> u32
@@ -14,6 +14,7 @@ pub fn selected_bits(code: u32) -> u32
 }
 
 // The low n bits set, 2 to the n less 1: all ones, shifted down by what n lacks of 32, so that 32 is no case of its own.
+#[tactic(auto, using(crate::proofs::Laws::ones_shr))]
 fn mask(n: u32) -> u32
     requires { (1 ≤ n) × (n ≤ 32) }
     ensures { result ≡ 2 ^ n - 1 }
@@ -22,6 +23,7 @@ fn mask(n: u32) -> u32
 }
 
 // The low n bits of x.
+#[tactic(auto, using(crate::proofs::Laws::masks))]
 pub fn cut(x: u32, n: u32) -> u32
     requires { (1 ≤ n) × (n ≤ 32) }
     ensures { result ≡ x % 2 ^ n }
@@ -30,6 +32,7 @@ pub fn cut(x: u32, n: u32) -> u32
 }
 
 // Selected bits of s, unselected bits of u.
+#[tactic(auto, using(crate::proofs::Laws::merge_law))]
 pub fn merge(s: u32, u: u32, n: u32) -> u32
     requires { (1 ≤ n) × (n ≤ 32) }
     ensures { result ≡ merged n s u }
@@ -46,6 +49,7 @@ pub fn bit(i: u32, x: u32) -> u32
 }
 
 // The selected bits moved to the top of the word, where one shift or test serves every width.
+#[tactic(auto, using(crate::proofs::Laws::shl_law))]
 fn top(x: u32, n: u32) -> u32
     requires { (1 ≤ n) × (n ≤ 32) }
     ensures { result ≡ x % 2 ^ n * 2 ^ (32 - n) }
@@ -54,6 +58,7 @@ fn top(x: u32, n: u32) -> u32
 }
 
 // The top selected bit.
+#[tactic(auto, using(crate::proofs::Laws::top_bits))]
 pub fn sign(x: u32, n: u32) -> u32
     requires { (1 ≤ n) × (n ≤ 32) }
     ensures { result ≡ sign_of n x }
@@ -62,6 +67,7 @@ pub fn sign(x: u32, n: u32) -> u32
 }
 
 // The top selected bit, in its place.
+#[tactic(auto, using(crate::proofs::Laws::one_bit))]
 pub fn sign_bit(x: u32, n: u32) -> u32
     requires { (1 ≤ n) × (n ≤ 32) }
     ensures { result ≡ sign_of n x * 2 ^ (n - 1) }
@@ -69,11 +75,19 @@ pub fn sign_bit(x: u32, n: u32) -> u32
     x & (1 << (n - 1))
 }
 
+#[tactic(auto, using(crate::proofs::Laws::top_bits), unfolding(crate::specs::Bits::zero_of))]
 pub fn is_zero(x: u32, n: u32) -> u32
     requires { (1 ≤ n) × (n ≤ 32) }
     ensures { result ≡ zero_of n x }
 {
-    if top(x, n) == 0 { 1 } else { 0 }
+    (top(x, n) == 0) as u32
+}
+
+// The first at 0, the second at any other number.
+pub fn choose(f: u32, a: u32, b: u32) -> u32
+    ensures { result ≡ choose f a b }
+{
+    if f == 0 { a } else { b }
 }
 
 // 32 copies of a flag.
@@ -88,7 +102,7 @@ pub fn spread(f: u32) -> u32
 pub fn add(a: u32, b: u32, c: u32) -> u32
     ensures { result ≡ (a + b + c) % 2 ^ 32 }
 {
-    std::num::wrapping_add_u32(std::num::wrapping_add_u32(a, b), c)
+    a.wrapping_add(b).wrapping_add(c)
 }
 
 // The wrapping difference: a - b where c is 1, and one less where c is 0.
@@ -96,7 +110,7 @@ pub fn subtract(a: u32, b: u32, c: u32) -> u32
     requires { c < 2 }
     ensures { result ≡ (a + not_of b + c) % 2 ^ 32 }
 {
-    std::num::wrapping_sub_u32(std::num::wrapping_sub_u32(a, b), 1 - c)
+    a.wrapping_sub(b).wrapping_sub(1 - c)
 }
 
 // The sum with its carry out of the data word, from which carry and overflow of any width can be read.
@@ -114,6 +128,7 @@ pub fn low(s: u64) -> u32
 }
 
 // The carry out of the top selected bit of a + b + c, from that sum s: it differs from its operands where a carry came in.
+#[tactic(auto, using(crate::proofs::Adder::reads))]
 pub fn carry(a: u32, b: u32, c: u32, s: u64, n: u32) -> u32
     requires { (1 ≤ n) × (n ≤ 32) × (c < 2) × (s ≡ a + b + c) }
     ensures { result ≡ carry_of n a b c }
@@ -123,6 +138,7 @@ pub fn carry(a: u32, b: u32, c: u32, s: u64, n: u32) -> u32
 }
 
 // Its overflow: the carry into the top selected bit is not the carry out of it.
+#[tactic(auto, using(crate::proofs::Adder::reads))]
 pub fn overflow(a: u32, b: u32, c: u32, s: u64, n: u32) -> u32
     requires { (1 ≤ n) × (n ≤ 32) × (c < 2) × (s ≡ a + b + c) }
     ensures { result ≡ overflow_of n a b c }
@@ -140,17 +156,16 @@ pub fn up(k: u32, x: u32) -> u32
 }
 
 // A word rotated up by k.
+#[tactic(auto, using(crate::proofs::Laws::rotate_law))]
 pub fn rotate(k: u32, x: u32) -> u32
     requires { k < 32 }
     ensures { result ≡ rotated_up k x }
 {
-    if k == 0 {
-        return x;
-    }
-    (x << k) | (x >> (32 - k))
+    x.rotate_left(k)
 }
 
 // Ones in the w bits from bit p up.
+#[tactic(auto, unfolding(crate::specs::Bits::field_mask))]
 pub fn field_mask(p: u32, w: u32) -> u32
     requires { (p < 32) × (1 ≤ w) × (w ≤ 32) }
     ensures { result ≡ field_mask p w }
@@ -165,6 +180,7 @@ pub fn masked(m: u32, s: u32, u: u32) -> u32
     (s & m) | (u & !m)
 }
 
+#[tactic(auto, using(crate::proofs::Laws::one_bit))]
 pub fn set_bit(i: u32, x: u32) -> u32
     requires { i < 32 }
     ensures { result ≡ put_bit i 1 x }
@@ -172,6 +188,7 @@ pub fn set_bit(i: u32, x: u32) -> u32
     x | (1 << i)
 }
 
+#[tactic(auto, using(crate::proofs::Laws::one_bit))]
 pub fn clear_bit(i: u32, x: u32) -> u32
     requires { i < 32 }
     ensures { result ≡ put_bit i 0 x }
@@ -180,6 +197,7 @@ pub fn clear_bit(i: u32, x: u32) -> u32
 }
 
 // The priority code: leading zeros of the selected bytes.
+#[tactic(auto, using(crate::proofs::Laws::leading_zeros), unfolding(crate::specs::Bits::priority_of))]
 pub fn priority(x: u32, n: u32) -> u32
     requires { (1 ≤ n) × (n ≤ 32) }
     ensures { result ≡ priority_of n x }
@@ -188,17 +206,18 @@ pub fn priority(x: u32, n: u32) -> u32
     if s == 0 {
         return 0;
     }
-    u32::leading_zeros(s) - (32 - n)
+    s.leading_zeros() - (32 - n)
 }
 
 // The bit that makes the count of ones in it and the low byte of x even.
 fn byte_parity(x: u32) -> u32
     ensures { (result ≡ count_ones (x % 256) % 2) × (result < 2) }
 {
-    u32::count_ones(x % 256) % 2
+    (x % 256).count_ones() % 2
 }
 
 // Even parity, highest byte first, by doubling: a sum of four products the compiler works out two at a time, with masks that it stores.
+#[tactic(auto, unfolding(crate::specs::Bits::parity_of))]
 pub fn parity(x: u32) -> u32
     ensures { result ≡ parity_of x }
 {
@@ -206,23 +225,17 @@ pub fn parity(x: u32) -> u32
     (upper * 2 + byte_parity(x >> 8)) * 2 + byte_parity(x)
 }
 
-// Four bytes as one number, the first lowest: one load on a little-endian machine.
-fn low_first(b0: u8, b1: u8, b2: u8, b3: u8) -> u32
-    ensures { result ≡ b0 + b1 * 2 ^ 8 + b2 * 2 ^ 16 + b3 * 2 ^ 24 }
-{
-    b0 as u32 + b1 as u32 * 0x100 + b2 as u32 * 0x1_0000 + b3 as u32 * 0x100_0000
-}
-
-// The four bytes of a number the other way round: one instruction.
-fn turned(v: u32) -> u32
-    ensures { result ≡ bytes4 (v % 2 ^ 8) (v / 2 ^ 8 % 2 ^ 8) (v / 2 ^ 16 % 2 ^ 8) (v / 2 ^ 24) }
-{
-    v % 256 * 0x100_0000 + v / 0x100 % 256 * 0x1_0000 + v / 0x1_0000 % 256 * 0x100 + v / 0x100_0000
-}
-
-// Four bytes as one number, the first highest, as sheets and registers are written: one load and one turn.
+// Four bytes as one number, the first highest, as sheets and registers are written: one load and one turn (docs/SPEED.md).
 pub fn four_bytes(b0: u8, b1: u8, b2: u8, b3: u8) -> u32
     ensures { result ≡ bytes4 b0 b1 b2 b3 }
 {
-    turned(low_first(b0, b1, b2, b3))
+    u32::from_be_bytes([b0, b1, b2, b3])
+}
+
+// The four bytes at a place, as one number.
+pub fn four_bytes_at(s: &[u8], at: usize) -> u32
+    requires { at + 4 ≤ length s.now }
+    ensures { result ≡ bytes4_at s.now at }
+{
+    four_bytes(s[at], s[at + 1], s[at + 2], s[at + 3])
 }

@@ -21,87 +21,77 @@
 
 use lines::print_word;
 use machine::Machine;
+use reasons::Outcome;
 
 // The boundaries of a multiplication of 17 words.
-const BOUNDARIES: usize = 18;
+const EVERY: [u16; 18] = [0, 1, 2, 3, 4, 5, 6, 7, 8, 9, 10, 11, 12, 13, 14, 15, 16, 17];
 
-// The registers at the start. The handler multiplies registers 2 and 4, and loads its status from register 3.
-fn registers(status: u32) -> [u32; 8] {
-    [0x89abcdef, 0, 0x0fedcba9, status, 0xfffffff1, 0, 0, 0]
+// Both sheets, the status that the multiplication starts with, and the one that the handler's body loads.
+#[derive(Clone, Copy)]
+pub struct Trial<'a> {
+    pub main: &'a [u8],
+    pub handler: &'a [u8],
+    pub status: u32,
+    pub loaded: u32,
 }
 
-// Q is the multiplier.
-fn start(status: u32) -> Machine {
-    Machine {
-        q: 0xfedcba98,
-        status,
+impl Trial<'_> {
+    // The registers at the start. The handler multiplies registers 2 and 4, and loads its status from register 3.
+    fn registers(self) -> [u32; 8] {
+        [0x89abcdef, 0, 0x0fedcba9, self.loaded, 0xfffffff1, 0, 0, 0]
+    }
+
+    // Q is the multiplier.
+    fn start(self) -> Machine {
+        Machine {
+            q: 0xfedcba98,
+            status: self.status,
+        }
+    }
+
+    // The multiplication by itself.
+    fn undisturbed(self) {
+        let mut file = self.registers();
+        let answer = run::run(self.main, &mut file, self.start(), 0, 0x1000);
+        let outcome = reasons::numbered_answer(answer.outcome);
+        report(*b"--", outcome, file, answer.machine);
+    }
+
+    // With the handler let in as scheduled.
+    fn interrupted(self, name: [u8; 2], schedule: &[u16]) {
+        let mut file = self.registers();
+        let served = interrupt::interrupted(
+            self.main,
+            self.handler,
+            schedule,
+            &mut file,
+            self.start(),
+        );
+        report(name, served.numbered(), file, served.machine);
+    }
+
+    // The undisturbed run, each boundary in turn, and all at once.
+    fn sweep(self) {
+        self.undisturbed();
+        for boundary in EVERY {
+            self.interrupted(text::hex(boundary as u64), &[boundary]);
+        }
+        self.interrupted(*b"**", &EVERY);
     }
 }
 
-// A name of two characters, reason and words run.
-fn print_head(name: [u8; 2], reason: u32, place: usize) {
-    let number = text::hex2(reason);
-    let words = text::hex4((place % 0x1_0000) as u32);
+// A name of two characters, reason and words run, then the high half of the product, Q and status, and the handler's register 5.
+fn report(name: [u8; 2], outcome: Outcome, file: [u32; 8], machine: Machine) {
     io::write_all(1, &name);
     io::write_all(1, b" ");
-    io::write_all(1, &number);
+    io::write_all(1, &text::hex::<2>(outcome.reason as u64));
     io::write_all(1, b" ");
-    io::write_all(1, &words);
+    io::write_all(1, &text::hex::<4>(outcome.place));
     io::write_all(1, b" ");
-}
-
-// These, then the high half of the product, Q and status, and the handler's register 5.
-fn report(name: [u8; 2], reason: u32, place: usize, file: [u32; 8], machine: Machine) {
-    print_head(name, reason, place);
     print_word(file[1], b' ');
     print_word(machine.q, b' ');
     print_word(machine.status, b' ');
     print_word(file[5], b'\n');
-}
-
-// The multiplication by itself.
-fn undisturbed(main: &[u8], status: u32, loaded: u32) {
-    let mut file = registers(loaded);
-    let answer = run::run(main, &mut file, start(status), 0, 0x1000);
-    let reason = answer.reason;
-    let machine = answer.machine;
-    report(*b"--", reasons::number(reason), answer.place, file, machine);
-}
-
-// With the handler let in as scheduled.
-fn interrupted<'a>(
-    name: [u8; 2],
-    main: &'a [u8],
-    handler: &'a [u8],
-    schedule: &[u16],
-    status: u32,
-    loaded: u32,
-) {
-    let mut file = registers(loaded);
-    let answer = interrupt::interrupted(main, handler, schedule, &mut file, start(status));
-    let reason = answer.reason;
-    let machine = answer.machine;
-    report(name, reasons::number(reason), answer.place, file, machine);
-}
-
-// The undisturbed run, each boundary in turn, and all at once; the multiplication starts with one status, the handler's body with another.
-fn sweep<'a>(main: &'a [u8], handler: &'a [u8], status: u32, loaded: u32) {
-    undisturbed(main, status, loaded);
-    let mut every = [0u16; 18];
-    let mut b: usize = 0;
-    while b < BOUNDARIES {
-        every[b] = b as u16;
-        interrupted(
-            text::hex2(b as u32),
-            main,
-            handler,
-            &every[b..b + 1],
-            status,
-            loaded,
-        );
-        b += 1;
-    }
-    interrupted(*b"**", main, handler, &every, status, loaded);
 }
 
 fn main() {
@@ -109,6 +99,13 @@ fn main() {
     let mut handler = [0u8; 142];
     io::read_full(0, &mut main);
     io::read_full(0, &mut handler);
-    sweep(&main, &handler, 0, 0xffffffff);
-    sweep(&main, &handler, 0xffffffff, 0);
+    for status in [0, 0xffffffff] {
+        let trial = Trial {
+            main: &main,
+            handler: &handler,
+            status,
+            loaded: !status,
+        };
+        trial.sweep();
+    }
 }

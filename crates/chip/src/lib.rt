@@ -206,7 +206,6 @@ fn inputs(s: SingleWord) -> Inputs
         status: s.status,
     };
     let core = machine.enter();
-    let status = core.status;
     Inputs {
         code: s.code,
         position: s.position,
@@ -218,7 +217,7 @@ fn inputs(s: SingleWord) -> Inputs
         a: s.a,
         b: s.b,
         q: core.q,
-        status,
+        status: core.status,
     }
 }
 
@@ -229,15 +228,13 @@ fn answer(operation: Operation, s: SingleWord) -> SingleAnswer
 {
     let x = inputs(s);
     let shown = perform(operation, x).shown(s.borrow);
-    let core = shown.core;
-    let after = core.status;
     SingleAnswer {
         check: Ok(()),
         y: shown.y,
         parity: bits::parity(shown.y),
         q: shown.core.q,
         status: shown.status(),
-        pins: after.pins(),
+        pins: shown.core.status.pins(),
     }
 }
 

@@ -5,6 +5,9 @@ use chip::SingleWord;
 
 const SYSTEMATIC: u32 = 73728;
 
+// The digits about which decimal carries turn.
+const DIGITS: [u8; 8] = [0x0, 0x1, 0x4, 0x5, 0x8, 0x9, 0xa, 0xf];
+
 // A case of the single word, and the draw that says how it is run on registers, which is also the generator after the case.
 #[derive(Clone, Copy)]
 pub struct Case {
@@ -12,24 +15,29 @@ pub struct Case {
     pub how: u64,
 }
 
+// An opcode number's line as it is drawn: the number, and the generator before the next case.
+#[derive(Clone, Copy)]
+pub struct Line {
+    pub opcode: u32,
+    pub seed: u64,
+}
+
 // One step of the generator.
-pub fn next(x: u64) -> u64 {
+fn next(x: u64) -> u64 {
     let a = x ^ (x << 13);
     let b = a ^ (a >> 7);
     b ^ (b << 17)
 }
 
-// A sum after one answer more.
-pub fn fold(sum: u64, answer: u32) -> u64 {
-    next(sum ^ answer as u64)
+// A sum after more answers, one after another.
+pub fn fold(sum: u64, answers: &[u32]) -> u64 {
+    answers
+        .iter()
+        .fold(sum, |sum, answer| next(sum ^ *answer as u64))
 }
 
-pub fn low(x: u64) -> u32 {
-    (x % 0x1_0000_0000) as u32
-}
-
-pub fn high(x: u64) -> u32 {
-    (x / 0x1_0000_0000) as u32
+fn high(x: u64) -> u32 {
+    bits::low(x >> 32)
 }
 
 // The given number of values, a power of two, from bit `at` of x up.
@@ -37,21 +45,13 @@ pub fn part(x: u64, at: u32, values: u32) -> u32
     requires { (at < 64) × (0 < values) }
     ensures { result < values }
 {
-    low(x >> at) % values
-}
-
-// The digits 0, 1, 4, 5, 8, 9, A, F, about which decimal carries turn.
-fn digit(j: u32) -> u32
-    requires { j < 8 }
-    ensures { result < 16 }
-{
-    (0xfa985410 >> (4 * j)) % 16
+    bits::low(x >> at) % values
 }
 
 // A power of two, at every bit, less one, itself or with one more.
 fn near_power(k: u32) -> u32 {
     let power: u32 = 1 << (k % 32);
-    std::num::wrapping_sub_u32(std::num::wrapping_add_u32(power, k / 32 % 3), 1)
+    power.wrapping_add(k / 32 % 3).wrapping_sub(1)
 }
 
 // Boundary patterns, 256: below 192 those near a power of two, from 96 on with all bits turned over; then the same two digits in every byte.
@@ -59,7 +59,9 @@ fn pattern(k: u32) -> u32
     requires { k < 256 }
 {
     if 191 < k {
-        return digit(k / 8 % 8) * 0x10101010 + digit(k % 8) * 0x01010101;
+        let high = DIGITS[(k / 8 % 8) as usize];
+        let low = DIGITS[(k % 8) as usize];
+        return u32::from_be_bytes([high << 4 | low; 4]);
     }
     if 95 < k {
         return !near_power(k);
@@ -77,32 +79,6 @@ fn with_bit(x: u32, i: u32, f: u32) -> u32
     bits::set_bit(i, x)
 }
 
-// Case i of the systematic part: patterns for A in order and for B as drawn, at all byte codes, with carry in, link and switches crossed.
-fn systematic(opcode: u32, i: u32, seed: u64) -> Case {
-    let r1 = next(seed);
-    let r2 = next(r1);
-    let k = i % 32;
-    let link = k / 4 % 2;
-    let status = with_bit(with_bit(low(r1), 16, k % 2), 20, link);
-    Case {
-        word: SingleWord {
-            opcode,
-            code: i / 32 % 4,
-            position: part(r2, 0, 64),
-            width: part(r2, 6, 32),
-            select: k / 8 % 2,
-            carry: k / 2 % 2,
-            link: 1 - link,
-            borrow: k / 16,
-            a: pattern(i / 128 % 256),
-            b: pattern(part(r2, 11, 256)),
-            q: high(r1),
-            status,
-        },
-        how: next(r2),
-    }
-}
-
 // A pattern where the lowest of nine drawn bits is set, else the value itself.
 fn operand(drawn: u32, value: u32) -> u32
     requires { drawn < 512 }
@@ -114,6 +90,7 @@ fn operand(drawn: u32, value: u32) -> u32
 }
 
 // One input made too large: which one by `kind`, by how much by s, 1 or 2.
+// Kept: a number and no enum, since `kind` is as drawn and only this asks; the fields name the cases.
 fn spoilt(word: SingleWord, kind: u32, s: u32) -> SingleWord
     requires { (s < 3) × (0 < s) }
 {
@@ -134,49 +111,76 @@ fn spoilt(word: SingleWord, kind: u32, s: u32) -> SingleWord
     w
 }
 
-// A case of the random part.
-fn random(opcode: u32, seed: u64) -> Case {
-    let r1 = next(seed);
-    let r2 = next(r1);
-    let r3 = next(r2);
-    let how = next(r3);
-    let word = SingleWord {
-        opcode,
-        code: part(r3, 11, 4),
-        position: part(r3, 0, 64),
-        width: part(r3, 6, 32),
-        select: part(r3, 13, 2),
-        carry: part(r3, 14, 2),
-        link: part(r3, 15, 2),
-        borrow: part(r3, 16, 2),
-        a: operand(part(r3, 17, 512), high(r2)),
-        b: operand(part(r3, 26, 512), low(r2)),
-        q: operand(part(r3, 35, 512), high(r1)),
-        status: low(r1),
-    };
-    if part(r3, 44, 16) == 0 {
-        return Case {
-            word: spoilt(word, part(r3, 48, 8), part(r3, 51, 2) + 1),
-            how,
+impl Line {
+    // As it starts: the generator after sixteen steps.
+    pub fn start(opcode: u32) -> Line {
+        let mut seed = 0x9e37_79b9_7f4a_7c15 ^ opcode as u64;
+        for _ in 0..16 {
+            seed = next(seed);
+        }
+        Line { opcode, seed }
+    }
+
+    // Case i of the systematic part: patterns for A in order and for B as drawn, at all byte codes, with carry in, link and switches crossed.
+    fn systematic(self, i: u32) -> Case {
+        let r1 = next(self.seed);
+        let r2 = next(r1);
+        let k = i % 32;
+        let link = k / 4 % 2;
+        let status = with_bit(with_bit(bits::low(r1), 16, k % 2), 20, link);
+        Case {
+            word: SingleWord {
+                opcode: self.opcode,
+                code: i / 32 % 4,
+                position: part(r2, 0, 64),
+                width: part(r2, 6, 32),
+                select: k / 8 % 2,
+                carry: k / 2 % 2,
+                link: 1 - link,
+                borrow: k / 16,
+                a: pattern(i / 128 % 256),
+                b: pattern(part(r2, 11, 256)),
+                q: high(r1),
+                status,
+            },
+            how: next(r2),
+        }
+    }
+
+    // A case of the random part.
+    fn random(self) -> Case {
+        let r1 = next(self.seed);
+        let r2 = next(r1);
+        let r3 = next(r2);
+        let how = next(r3);
+        let word = SingleWord {
+            opcode: self.opcode,
+            code: part(r3, 11, 4),
+            position: part(r3, 0, 64),
+            width: part(r3, 6, 32),
+            select: part(r3, 13, 2),
+            carry: part(r3, 14, 2),
+            link: part(r3, 15, 2),
+            borrow: part(r3, 16, 2),
+            a: operand(part(r3, 17, 512), high(r2)),
+            b: operand(part(r3, 26, 512), bits::low(r2)),
+            q: operand(part(r3, 35, 512), high(r1)),
+            status: bits::low(r1),
         };
+        if part(r3, 44, 16) == 0 {
+            return Case {
+                word: spoilt(word, part(r3, 48, 8), part(r3, 51, 2) + 1),
+                how,
+            };
+        }
+        Case { word, how }
     }
-    Case { word, how }
-}
 
-fn four_steps(x: u64) -> u64 {
-    next(next(next(next(x))))
-}
-
-// The generator as an opcode's line starts: after sixteen steps.
-pub fn start(opcode: u32) -> u64 {
-    let seed = 0x9e37_79b9_7f4a_7c15 ^ opcode as u64;
-    four_steps(four_steps(four_steps(four_steps(seed))))
-}
-
-// Case i of an opcode's line.
-pub fn draw_case(opcode: u32, i: u32, seed: u64) -> Case {
-    if i < SYSTEMATIC {
-        return systematic(opcode, i, seed);
+    // Its case i.
+    pub fn draw_case(self, i: u32) -> Case {
+        if i < SYSTEMATIC {
+            return self.systematic(i);
+        }
+        self.random()
     }
-    random(opcode, seed)
 }

@@ -6,10 +6,8 @@
 mod draw;
 mod registers;
 
-ghost use Rattle.std.specs.Prelude.{◌≡◌, length};
-
 use chip::SingleAnswer;
-use draw::Case;
+use draw::{Case, Line};
 
 const CASES: u32 = 102400;
 
@@ -22,18 +20,21 @@ pub struct Sums {
 
 // The sum after an answer of the single word: reason, place, Y, parity, Q, status and pins.
 fn answered(sum: u64, answer: SingleAnswer) -> u64 {
-    let reason = answer.reason;
-    let after_reason = draw::fold(sum, reasons::number(reason));
-    let after_place = draw::fold(after_reason, (answer.place % 0x1_0000_0000) as u32);
-    let after_parity = draw::fold(draw::fold(after_place, answer.y), answer.parity);
-    let after_status = draw::fold(draw::fold(after_parity, answer.q), answer.status);
-    draw::fold(after_status, answer.pins)
+    let check = reasons::numbered_check(answer.check);
+    let numbers = [
+        check.reason,
+        bits::low(check.place),
+        answer.y,
+        answer.parity,
+        answer.q,
+        answer.status,
+        answer.pins,
+    ];
+    draw::fold(sum, &numbers)
 }
 
 // Both sums after one case more.
-fn tried(sums: Sums, case: Case, file: &mut [u32]) -> Sums
-    requires { length file.old ≡ 64 }
-{
+fn tried(sums: Sums, case: Case, file: &mut [u32; 64]) -> Sums {
     let word = case.word;
     Sums {
         single: answered(sums.single, chip::single_word(word)),
@@ -44,40 +45,32 @@ fn tried(sums: Sums, case: Case, file: &mut [u32]) -> Sums
 // The digest of all cases of one opcode number.
 fn digest(opcode: u32) -> Sums {
     let mut file = [0u32; 64];
-    let mut seed = draw::start(opcode);
+    let mut line = Line::start(opcode);
     let mut sums = Sums { single: 1, run: 1 };
-    let mut i: u32 = 0;
-    while i < CASES {
-        let case = draw::draw_case(opcode, i, seed);
-        seed = case.how;
+    for i in 0..CASES {
+        let case = line.draw_case(i);
+        line.seed = case.how;
         sums = tried(sums, case, &mut file);
-        i += 1;
     }
     sums
 }
 
 // A sum's sixteen digits, after a space.
 fn print_sum(sum: u64) {
-    let upper = text::hex8(draw::high(sum));
-    let lower = text::hex8(draw::low(sum));
     io::write_all(1, b" ");
-    io::write_all(1, &upper);
-    io::write_all(1, &lower);
+    io::write_all(1, &text::hex::<16>(sum));
 }
 
 fn report(opcode: u32) {
     let sums = digest(opcode);
-    let number = text::hex2(opcode);
-    io::write_all(1, &number);
+    io::write_all(1, &text::hex::<2>(opcode as u64));
     print_sum(sums.single);
     print_sum(sums.run);
     io::write_all(1, b"\n");
 }
 
 fn main() {
-    let mut opcode: u32 = 0;
-    while opcode < 128 {
+    for opcode in 0..128 {
         report(opcode);
-        opcode += 1;
     }
 }

@@ -13,11 +13,10 @@ use machine::{Inputs, Outputs};
 fn unchanged(x: Inputs) -> Outputs
     ensures { result ≡ leaving x 0 x.status }
 {
-    let status = x.status;
     Outputs {
         y: 0,
         q: x.q,
-        status,
+        status: x.status,
     }
 }
 

@@ -4,7 +4,9 @@ use Prim.Native.Nat.{ℕ, zero, suc, ◌-◌, ◌%◌, ◌^◌, ◌≤◌, ◌<�
 use native.Mathlib.Omega.{arith}
 use lib.Pow.{split}
 use Rattle.bits.specs.Bits.{sign_of, zero_of, merged, choose}
-use Rattle.bits.proofs.Laws.{merged_wrap, zero_wrap, bit_wrap}
+use Rattle.bits.proofs.Laws.{choose-zero, choose_one, merged_wrap, zero_wrap, bit_wrap, carry-lt}
+use Rattle.bits.proofs.BitByBit.{bit-lt}
+use Rattle.machine.proofs.Kept.{bits-le}
 use Rattle.divide.specs.Steps.{upshifted}
 
 pub sign_wrap : (n v : ℕ) → n ≤ 32 → sign_of n (v % 2 ^ 32) ≡ sign_of n v
@@ -30,3 +32,10 @@ pub choose-not {ℓ} : {A : Type ℓ} (f : ℕ) (a b : A) → f < 2 → choose (
 choose-not zero a b h = refl
 choose-not (suc zero) a b h = refl
 choose-not (suc (suc f)) a b h = absurd (omega arith)
+
+-- ---- what the code of each step asks for
+pub ruleset wrapping = (merged_wrap, zero_wrap, sign_wrap, up_wrap, merged-up, zero-up, bits-le)
+
+pub ruleset correcting = (choose-zero, choose_one, choose-not, merged-same)
+
+pub ruleset flags = (carry-lt, bit-lt)

@@ -37,6 +37,7 @@ pub fn divide(k: u32, x: Inputs) -> Outputs
 }
 
 // SDIVFIRST: S and L get the dividend's sign, the bit shifted out of B.
+#[tactic(auto, using(crate::proofs::Laws::wrapping), unfolding(crate::specs::Divide::SDIVFIRST))]
 fn signed_first(x: Inputs) -> Outputs
     requires { Sound x }
     ensures { result ≡ SDIVFIRST x }
@@ -44,7 +45,7 @@ fn signed_first(x: Inputs) -> Outputs
     let bit = steps::signed_bit(x, x.b);
     let out = bits::sign(x.b, x.bits());
     let o = x.result(steps::shift_up(x.b, steps::sign_q(x)), x.b);
-    let mut status = o.held();
+    let mut status = o.status.held();
     status.l = out;
     status.m = bit;
     status.s = out;
@@ -56,12 +57,13 @@ fn signed_first(x: Inputs) -> Outputs
 }
 
 // UDIVFIRST: M is set so that the first step subtracts; S, which extends the partial remainder, starts at 0.
+#[tactic(auto, using(crate::proofs::Laws::wrapping), unfolding(crate::specs::Divide::UDIVFIRST))]
 fn unsigned_first(x: Inputs) -> Outputs
     requires { Sound x }
     ensures { result ≡ UDIVFIRST x }
 {
     let o = x.result(steps::shift_up(x.b, steps::sign_q(x)), x.b);
-    let mut status = o.held();
+    let mut status = o.status.held();
     status.l = bits::sign(x.b, x.bits());
     status.m = 1;
     status.s = 0;
@@ -73,6 +75,7 @@ fn unsigned_first(x: Inputs) -> Outputs
 }
 
 // SDIVSTEP: Z and N are of Y, after the upshift.
+#[tactic(auto, using(crate::proofs::Laws::wrapping), unfolding(crate::specs::Divide::SDIVSTEP))]
 fn signed_step(x: Inputs) -> Outputs
     requires { Sound x }
     ensures { result ≡ SDIVSTEP x }
@@ -81,7 +84,7 @@ fn signed_step(x: Inputs) -> Outputs
     let f = steps::form(x, n, x.status.m);
     let bit = steps::signed_bit(x, f.value);
     let o = x.result(steps::shift_up(f.value, steps::sign_q(x)), x.b);
-    let mut status = o.held();
+    let mut status = o.status.held();
     status.c = f.carry;
     status.l = bits::sign(f.value, n);
     status.m = bit;
@@ -93,13 +96,14 @@ fn signed_step(x: Inputs) -> Outputs
 }
 
 // SDIVLAST1: F is not shifted, and a 1 is forced into Q for the correction steps (note 2).
+#[tactic(auto, using(crate::proofs::Laws::wrapping), unfolding(crate::specs::Divide::SDIVLAST1))]
 fn signed_last_1(x: Inputs) -> Outputs
     requires { Sound x }
     ensures { result ≡ SDIVLAST1 x }
 {
     let f = steps::form(x, x.bits(), x.status.m);
     let o = x.result(f.value, x.b);
-    let mut status = o.held();
+    let mut status = o.status.held();
     status.c = f.carry;
     status.m = steps::signed_bit(x, f.value);
     Outputs {
@@ -110,6 +114,7 @@ fn signed_last_1(x: Inputs) -> Outputs
 }
 
 // MPDIVSTEP1: the least significant word of the remainder; the byte code is that of Q.
+#[tactic(auto, unfolding(crate::specs::Divide::MPDIVSTEP1))]
 fn multiprecision_step_1(x: Inputs) -> Outputs
     requires { Sound x }
     ensures { result ≡ MPDIVSTEP1 x }
@@ -118,6 +123,7 @@ fn multiprecision_step_1(x: Inputs) -> Outputs
 }
 
 // MPSDIVSTEP3: the most significant part of the remainder. MPDIVSTEP1 left the place of the quotient bit in Q vacant (note 1).
+#[tactic(auto, using(crate::proofs::Laws::wrapping), unfolding(crate::specs::Divide::MPSDIVSTEP3))]
 fn multiprecision_signed_step_3(x: Inputs) -> Outputs
     requires { Sound x }
     ensures { result ≡ MPSDIVSTEP3 x }
@@ -128,6 +134,7 @@ fn multiprecision_signed_step_3(x: Inputs) -> Outputs
 }
 
 // UDIVSTEP: the bit shifted out of F goes to L and S.
+#[tactic(auto, using(crate::proofs::Laws::wrapping), unfolding(crate::specs::Divide::UDIVSTEP))]
 fn unsigned_step(x: Inputs) -> Outputs
     requires { Sound x }
     ensures { result ≡ UDIVSTEP x }
@@ -138,6 +145,7 @@ fn unsigned_step(x: Inputs) -> Outputs
 }
 
 // UDIVLAST: F is not shifted; N is the sign of the extended F, for the correction.
+#[tactic(auto, using(crate::proofs::Laws::wrapping), unfolding(crate::specs::Divide::UDIVLAST))]
 fn unsigned_last(x: Inputs) -> Outputs
     requires { Sound x }
     ensures { result ≡ UDIVLAST x }
@@ -145,7 +153,7 @@ fn unsigned_last(x: Inputs) -> Outputs
     let n = x.bits();
     let f = steps::form(x, n, x.status.m);
     let bit = steps::unsigned_bit(x, f.carry);
-    let mut status = x.held();
+    let mut status = x.status.held();
     status.n = steps::extended_sign(x, f.carry);
     status.z = bits::is_zero(f.value, n);
     status.c = f.carry;
@@ -159,6 +167,7 @@ fn unsigned_last(x: Inputs) -> Outputs
 }
 
 // MPDIVSTEP2: the words between; Q is not affected or used.
+#[tactic(auto, unfolding(crate::specs::Divide::MPDIVSTEP2))]
 fn multiprecision_step_2(x: Inputs) -> Outputs
     requires { Sound x }
     ensures { result ≡ MPDIVSTEP2 x }
@@ -167,6 +176,7 @@ fn multiprecision_step_2(x: Inputs) -> Outputs
 }
 
 // MPUDIVSTP3: MPSDIVSTEP3 with the quotient bit and S of UDIVSTEP.
+#[tactic(auto, using(crate::proofs::Laws::wrapping), unfolding(crate::specs::Divide::MPUDIVSTP3))]
 fn multiprecision_unsigned_step_3(x: Inputs) -> Outputs
     requires { Sound x }
     ensures { result ≡ MPUDIVSTP3 x }
@@ -177,11 +187,12 @@ fn multiprecision_unsigned_step_3(x: Inputs) -> Outputs
 }
 
 // REMCORR: by M the divisor is added to the remainder or taken off it. C is 0 where nothing is added.
+#[tactic(auto, using(crate::proofs::Laws::wrapping, crate::proofs::Laws::correcting), unfolding(crate::specs::Divide::REMCORR))]
 fn correct_remainder(x: Inputs) -> Outputs
     requires { Sound x }
     ensures { result ≡ REMCORR x }
 {
-    let mut status = x.held();
+    let mut status = x.status.held();
     if steps::remainder_test(x) == 0 {
         status.c = 0;
         return Outputs {
@@ -201,11 +212,12 @@ fn correct_remainder(x: Inputs) -> Outputs
 }
 
 // QUOCORR: one is taken off the quotient where M is 0, and added where it is 1. C and V are 0 where nothing is.
+#[tactic(auto, using(crate::proofs::Laws::wrapping, crate::proofs::Laws::correcting), unfolding(crate::specs::Divide::QUOCORR))]
 fn correct_quotient(x: Inputs) -> Outputs
     requires { Sound x }
     ensures { result ≡ QUOCORR x }
 {
-    let mut status = x.held();
+    let mut status = x.status.held();
     if steps::printed_test(x) == 0 {
         status.c = 0;
         status.v = 0;
@@ -230,13 +242,14 @@ fn correct_quotient(x: Inputs) -> Outputs
 }
 
 // SDIVLAST2: the divisor's sign is that of Q xor the dividend's in S. Only Z is of use (its page).
+#[tactic(auto, using(crate::proofs::Laws::wrapping), unfolding(crate::specs::Divide::SDIVLAST2))]
 fn signed_last_2(x: Inputs) -> Outputs
     requires { Sound x }
     ensures { result ≡ SDIVLAST2 x }
 {
     let sign = (steps::sign_q(x) + x.status.s) % 2;
     let r = bits::add(x.b, steps::operand(x.a, sign), sign);
-    let mut status = x.held();
+    let mut status = x.status.held();
     status.z = steps::zero_if_negative(x, r);
     Outputs {
         y: bits::merge(r, x.b, x.bits()),
@@ -246,6 +259,7 @@ fn signed_last_2(x: Inputs) -> Outputs
 }
 
 // The steps that leave N, on the selected bytes: F upshifted with the bit fill, over B; Z of that, C and L of F, the new quotient bit in M.
+#[tactic(auto, using(crate::proofs::Laws::wrapping))]
 fn step_on_bytes(x: Inputs, f: Formed, fill: u32, bit: u32, q: u32) -> Outputs
     requires { Sound x × (fill < 2) }
     ensures { result ≡ record {
@@ -256,7 +270,7 @@ fn step_on_bytes(x: Inputs, f: Formed, fill: u32, bit: u32, q: u32) -> Outputs
 {
     let n = x.bits();
     let r = steps::shift_up(f.value, fill);
-    let mut status = x.held();
+    let mut status = x.status.held();
     status.z = bits::is_zero(r, n);
     status.c = f.carry;
     status.l = bits::sign(f.value, n);
@@ -269,6 +283,7 @@ fn step_on_bytes(x: Inputs, f: Formed, fill: u32, bit: u32, q: u32) -> Outputs
 }
 
 // The steps on the full word: F with carry in c, upshifted with the bit fill; Z of that, C and L of F.
+#[tactic(auto, using(crate::proofs::Laws::wrapping))]
 fn step_on_word(x: Inputs, c: u32, fill: u32, q: u32) -> Outputs
     requires { (c < 2) × (fill < 2) }
     ensures { result ≡ record {
@@ -279,7 +294,7 @@ fn step_on_word(x: Inputs, c: u32, fill: u32, q: u32) -> Outputs
 {
     let f = steps::form(x, 32, c);
     let y = steps::shift_up(f.value, fill);
-    let mut status = x.held();
+    let mut status = x.status.held();
     status.z = bits::is_zero(y, 32);
     status.c = f.carry;
     status.l = bits::sign(f.value, 32);
@@ -290,7 +305,7 @@ fn step_on_word(x: Inputs, c: u32, fill: u32, q: u32) -> Outputs
 fn link_to_s(o: Outputs) -> Outputs
     ensures { result ≡ record { y = o.y; q = o.q; status = with_s o.status.l o.status } }
 {
-    let mut status = o.held();
+    let mut status = o.status.held();
     status.s = status.l;
     Outputs {
         y: o.y,

@@ -18,13 +18,11 @@ pub struct Formed {
 pub fn operand(v: u32, m: u32) -> u32
     ensures { result ≡ choose m v (not_of v) }
 {
-    if m == 0 {
-        return v;
-    }
-    !v
+    bits::choose(m, v, !v)
 }
 
 // B + A or B - A by M, with carry in c, and its carry out at n bits.
+#[tactic(auto, using(crate::proofs::Laws::flags))]
 pub fn form(x: Inputs, n: u32, c: u32) -> Formed
     requires { (1 ≤ n) × (n ≤ 32) × (c < 2) }
     ensures { (result.value ≡ formed x c % 2 ^ 32) × (result.carry ≡ carry_out x n c) × (result.carry < 2) }
@@ -42,10 +40,7 @@ pub fn step_carry(x: Inputs) -> u32
     requires { Sound x }
     ensures { (result ≡ step_carry x) × (result < 2) }
 {
-    if x.select == 0 {
-        return x.carry;
-    }
-    x.status.c
+    bits::choose(x.select, x.carry, x.status.c)
 }
 
 // The bit shifted into it: the macro link or the L flag, by the same sense.
@@ -53,10 +48,7 @@ pub fn step_link(x: Inputs) -> u32
     requires { Sound x }
     ensures { (result ≡ step_link x) × (result < 2) }
 {
-    if x.select == 0 {
-        return x.link;
-    }
-    x.status.l
+    bits::choose(x.select, x.link, x.status.l)
 }
 
 // v upshifted by one bit on the data word, the bit f shifted in.
@@ -68,6 +60,7 @@ pub fn shift_up(v: u32, f: u32) -> u32
 }
 
 // The top selected bit of Q, which the steps shift into F.
+#[tactic(auto, using(crate::proofs::Laws::flags))]
 pub fn sign_q(x: Inputs) -> u32
     requires { Sound x }
     ensures { (result ≡ sign_q x) × (result < 2) }
@@ -76,6 +69,7 @@ pub fn sign_q(x: Inputs) -> u32
 }
 
 // Q with its selected bytes upshifted, the bit f shifted in.
+#[tactic(auto, using(crate::proofs::Laws::wrapping))]
 pub fn shift_q(x: Inputs, f: u32) -> u32
     requires { Sound x × (f < 2) }
     ensures { result ≡ upshifted_q x f }
@@ -84,6 +78,7 @@ pub fn shift_q(x: Inputs, f: u32) -> u32
 }
 
 // Q with the bit f in its least significant place, not shifted.
+#[tactic(auto, unfolding(bits::specs::Bits::put_bit))]
 pub fn put_q(x: Inputs, f: u32) -> u32
     requires { f < 2 }
     ensures { result ≡ put_bit 0 f x.q }
@@ -125,6 +120,7 @@ pub fn printed_test(x: Inputs) -> u32
 }
 
 // The test of REMCORR: the same, but a remainder with N and S at 0 is right as it is.
+#[tactic(auto, using(crate::proofs::Laws::correcting))]
 pub fn remainder_test(x: Inputs) -> u32
     requires { Sound x }
     ensures { result ≡ remainder_test x }

@@ -1,33 +1,21 @@
 -- What the code's tests, shifts and rotates are in the definitions' words.
 use mathlib.Core.Path.{◌≡◌, refl, sym, ap, ap₂, ◌∙◌, subst}
 use Prim.Native.Nat.{ℕ, zero, suc, ◌+◌, ◌-◌, ◌*◌, ◌/◌, ◌%◌, ◌^◌, ◌≤◌, ◌<◌}
-use native.Mathlib.Nat.{lt_of_lt_of_le, zero-mul, one-mul, mul-mod_left, add-zero, mul-one, mod-eq_of_lt, div-eq_of_lt}
+use native.Mathlib.Nat.{lt_of_lt_of_le, zero-mul, one-mul, mul-mod_left, add-zero, mod-eq_of_lt}
 use native.Mathlib.Omega.{arith}
+use Rattle.std.proofs.Common.{w64}
+use Rattle.std.specs.Int.{rotate_left}
 use lib.Pow.{pow_pos, pow_mono, shr_lt, shr_le, shr-shr, shl-shr, mod-pow-add}
-use lib.Bits.{bit_or, or_shifted}
+use lib.Bits.{bit_or, or_self, or_shifted}
 use Rattle.bits.specs.Bits.{choose, copies}
-use Rattle.bits.proofs.Laws.{ones_shr, choose-zero, choose_one}
+use Rattle.bits.proofs.Laws.{ones_shr, choose-zero, choose_one, cut_wrap}
 use Rattle.bits.proofs.BitByBit.{by_flag}
 use Rattle.machine.specs.declared.Inputs.{Inputs}
 use Rattle.machine.specs.Inputs.{position_of}
+use Rattle.machine.proofs.Round.{loaded_good}
 use Rattle.fields.specs.Position.{sixth_of, displaced}
 use Rattle.fields.specs.NBit.{down_by}
 use Rattle.fields.specs.Field.{rotated_pair}
-
--- ---- the position p: below 32 it displaces up, from 32 on it is negative
-module _ (x : Inputs) (p : ℕ) (e : p ≡ position_of x) where
-  pub sixth_zero : p < 32 → sixth_of x ≡ 0
-  sixth_zero h = omega arith
-
-  pub sixth_one : 32 ≤ p → sixth_of x ≡ 0 → ⊥
-  sixth_one h z = omega arith
-
-module _ {A : Type 0} (x : Inputs) (p : ℕ) (e : p ≡ position_of x) (up down : ℕ → A) where
-  pub displaced-up : p < 32 → up p ≡ displaced x up down
-  displaced-up h = ap up e ∙ sym (choose-zero (sixth_of x) (up (position_of x)) (down (64 - position_of x)) (sixth_zero x p e h))
-
-  pub displaced-down : 32 ≤ p → down (64 - p) ≡ displaced x up down
-  displaced-down h = ap (λ (k : ℕ). down (64 - k)) e ∙ sym (choose_one (sixth_of x) (up (position_of x)) (down (64 - position_of x)) (sixth_one x p e h))
 
 -- ---- shifted down by k, 1 to 32, in two steps
 shr_two : (x k : ℕ) → 1 ≤ k → x / 2 ^ (k - 1) / 2 ≡ x / 2 ^ k
@@ -74,20 +62,23 @@ down_lt k s f hs = by_flag (λ (f : ℕ). s / 2 ^ k + f * (2 ^ 32 - 2 ^ (32 - k)
     all = omega (arith, low, top, one-mul (2 ^ 32 - 2 ^ (32 - k)))
 
 -- ---- 64 bits rotated up by k: the two parts change places
-pub pair_law : (k v : ℕ) → k ≤ 64 → v < 2 ^ 64 → bit_or ((v * 2 ^ k) % 2 ^ 64) (v / 2 ^ (64 - k)) ≡ rotated_pair k v
+pub pair_law : (k v : ℕ) → k < 64 → v < 2 ^ 64 → rotate_left w64 v k ≡ rotated_pair k v
 unfolding rotated_pair
-pair_law k v h hv =
+pair_law zero v h hv =
+    let up : v * 2 ^ 0 % 2 ^ 64 ≡ v = omega arith in
+    let down : v / 2 ^ 0 ≡ v = omega arith in
+    ap₂ bit_or up down ∙ or_self v ∙ omega arith
+pair_law (suc j) v h hv =
+    let k : ℕ = suc j in
     let e : (64 - k) + k ≡ 64 = omega arith in
     let f : k + (64 - k) ≡ 64 = omega arith in
+    let m : k % 64 ≡ k = mod-eq_of_lt h in
+    let n : (64 - k) % 64 ≡ 64 - k = mod-eq_of_lt (omega arith) in
     let up : (v * 2 ^ k) % 2 ^ 64 ≡ v % 2 ^ (64 - k) * 2 ^ k =
     subst (λ (m : ℕ). (v * 2 ^ k) % 2 ^ m ≡ v % 2 ^ (64 - k) * 2 ^ k) e
     (mod-pow-add (v * 2 ^ k) (64 - k) k ∙ ap₂ (λ (q r : ℕ). q % 2 ^ (64 - k) * 2 ^ k + r) (shl-shr v k) (mul-mod_left v (2 ^ k)) ∙ add-zero _) in
-    ap (λ (y : ℕ). bit_or y (v / 2 ^ (64 - k))) up
-    ∙ or_shifted (v % 2 ^ (64 - k)) k (v / 2 ^ (64 - k)) (shr_lt k (64 - k) (subst (λ (m : ℕ). v < 2 ^ m) (sym f) hv))
-
-pub pair_none : (v : ℕ) → v < 2 ^ 64 → v ≡ rotated_pair 0 v
-unfolding rotated_pair
-pair_none v h = sym (ap₂ (λ (q r : ℕ). q * 1 + r) (mod-eq_of_lt h) (div-eq_of_lt h) ∙ add-zero (v * 1) ∙ mul-one v)
+    rw (m, n) (ap (λ (y : ℕ). bit_or y (v / 2 ^ (64 - k))) up
+    ∙ or_shifted (v % 2 ^ (64 - k)) k (v / 2 ^ (64 - k)) (shr_lt k (64 - k) (subst (λ (m : ℕ). v < 2 ^ m) (sym f) hv)))
 
 -- one rotate serves both signs of a position: down by 64 - p is up by p
 pub pair_either : (x : Inputs) (p v : ℕ) → p ≡ position_of x → p < 64 → rotated_pair p v ≡ displaced x (λ k. rotated_pair k v) (λ k. rotated_pair (64 - k) v)
@@ -99,3 +90,13 @@ pair_either x p v e h =
     either : (f a b : ℕ) → a ≡ b → a ≡ choose f a b
     either zero a b e = refl
     either (suc f) a b e = e
+
+-- ---- what the code of each asks for
+-- by the position, below 32 or from 32 on
+pub ruleset displacing = (choose-zero, choose_one)
+
+pub ruleset downward = (fill-le, down_law, down_lt)
+
+pub ruleset pairs = (pair_either, cut_wrap)
+
+pub ruleset loading = (loaded_good)

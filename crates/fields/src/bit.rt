@@ -17,12 +17,13 @@ fn extracted(x: Inputs, s: u32) -> u32
 }
 
 // EXTBIT-A, EXTBIT-B
+#[tactic(auto, unfolding(crate::specs::BitManipulation::extract_bit))]
 pub fn extract(x: Inputs, s: u32) -> Outputs
     requires { Sound x }
     ensures { result ≡ extract_bit x s }
 {
     let f = extracted(x, s);
-    let mut status = x.held();
+    let mut status = x.status.held();
     status.z = bits::is_zero(f, 32);
     status.l = f;
     Outputs {
@@ -38,7 +39,7 @@ pub fn extract_status(x: Inputs) -> Outputs
     ensures { result ≡ EXTBIT-STAT x }
 {
     let f = extracted(x, x.read(x.status));
-    let mut status = x.held();
+    let mut status = x.status.held();
     status.l = f;
     Outputs {
         y: f,
@@ -48,6 +49,7 @@ pub fn extract_status(x: Inputs) -> Outputs
 }
 
 // SETBIT-A, SETBIT-B: Z is always reset.
+#[tactic(auto, unfolding(crate::specs::BitManipulation::put_into))]
 pub fn set(x: Inputs, s: u32) -> Outputs
     requires { Sound x }
     ensures { result ≡ put_into x s 1 0 }
@@ -56,6 +58,7 @@ pub fn set(x: Inputs, s: u32) -> Outputs
 }
 
 // RSTBIT-A, RSTBIT-B: Z is always set.
+#[tactic(auto, unfolding(crate::specs::BitManipulation::put_into))]
 pub fn reset(x: Inputs, s: u32) -> Outputs
     requires { Sound x }
     ensures { result ≡ put_into x s 0 1 }
@@ -64,6 +67,7 @@ pub fn reset(x: Inputs, s: u32) -> Outputs
 }
 
 // A word put into the status register, which drops bits 13, 14, 15 and 23; Y shows the register as it is then read.
+#[tactic(auto, using(crate::proofs::Laws::loading))]
 fn put_status(x: Inputs, word: u32) -> Outputs
     ensures { result ≡ leaving x (read_by x (loaded word)) (loaded word) }
 {
@@ -76,19 +80,19 @@ fn put_status(x: Inputs, word: u32) -> Outputs
 }
 
 // SETBIT-STAT
+#[tactic(auto, unfolding(crate::specs::BitManipulation::put_status))]
 pub fn set_status(x: Inputs) -> Outputs
     requires { Sound x }
     ensures { result ≡ put_status x 1 }
 {
-    let status = x.status;
-    put_status(x, bits::set_bit(position::place(x), x.read(status)))
+    put_status(x, bits::set_bit(position::place(x), x.read(x.status)))
 }
 
 // RSTBIT-STAT
+#[tactic(auto, unfolding(crate::specs::BitManipulation::put_status))]
 pub fn reset_status(x: Inputs) -> Outputs
     requires { Sound x }
     ensures { result ≡ put_status x 0 }
 {
-    let status = x.status;
-    put_status(x, bits::clear_bit(position::place(x), x.read(status)))
+    put_status(x, bits::clear_bit(position::place(x), x.read(x.status)))
 }

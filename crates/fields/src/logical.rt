@@ -15,6 +15,7 @@ fn aligned_field(x: Inputs) -> u32
 }
 
 // Ones in the non-aligned field, which starts at the position, or at bit 0 where that is negative, 32 or more.
+#[tactic(auto, using(crate::proofs::Laws::displacing))]
 fn moved_field(x: Inputs) -> u32
     requires { Sound x }
     ensures { result ≡ moved_field x }
@@ -28,6 +29,7 @@ fn moved_field(x: Inputs) -> u32
 
 // The source of a non-aligned field: shifted up to the position, or, where that is negative, rotated down (note 3 of the pages),
 // which by 64 - p is up by p - 32.
+#[tactic(auto, using(crate::proofs::Laws::displacing))]
 pub fn moved(x: Inputs, s: u32) -> u32
     requires { Sound x }
     ensures { result ≡ moved x s }
@@ -40,6 +42,7 @@ pub fn moved(x: Inputs, s: u32) -> u32
 }
 
 // r in the field, u in the remaining bits of Y; Z is of the field alone.
+#[tactic(auto, unfolding(crate::specs::Field::in_field))]
 fn in_field(x: Inputs, field: u32, r: u32, u: u32) -> Outputs
     ensures { result ≡ in_field x field r u }
 {
@@ -72,25 +75,23 @@ pub fn extract(x: Inputs, s: u32) -> Outputs
 }
 
 // Two words side by side, rotated up by k.
+#[tactic(auto, using(crate::proofs::Laws::pair_law))]
 fn rotate_pair(k: u32, high: u32, low: u32) -> u64
     requires { k < 64 }
     ensures { result ≡ rotated_pair k (beside high low) }
 {
-    let v = (high as u64) * 0x1_0000_0000 + low as u64;
-    if k == 0 {
-        return v;
-    }
-    (v << k) | (v >> (64 - k))
+    let v = u64::from(high) * 0x1_0000_0000 + u64::from(low);
+    v.rotate_left(k)
 }
 
 // EXTF-AB, EXTF-BA. Rotated down by 64 - p is rotated up by p, so that one rotate serves both signs of the position.
+#[tactic(auto, using(crate::proofs::Laws::pairs), unfolding(crate::specs::Field::extract_pair))]
 pub fn extract_pair(x: Inputs, high: u32, low: u32) -> Outputs
     requires { Sound x }
     ensures { result ≡ extract_pair x high low }
 {
     let rotated = rotate_pair(x.position(), high, low);
-    let word = (rotated % 0x1_0000_0000) as u32;
-    position::leave_whole(x, bits::cut(word, x.width()))
+    position::leave_whole(x, bits::cut(bits::low(rotated), x.width()))
 }
 
 // PASS-MASK: the sixth position bit inverts all 32 bits.
@@ -99,17 +100,9 @@ pub fn pass_mask(x: Inputs) -> Outputs
     ensures { result ≡ PASS-MASK x }
 {
     let field = aligned_field(x);
-    let status = x.status;
-    if x.position() < 32 {
-        return Outputs {
-            y: field,
-            q: x.q,
-            status,
-        };
-    }
     Outputs {
-        y: !field,
+        y: bits::choose(x.position() / 32, field, !field),
         q: x.q,
-        status,
+        status: x.status,
     }
 }

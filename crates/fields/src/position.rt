@@ -19,7 +19,7 @@ pub fn place(x: Inputs) -> u32
 pub fn leave(x: Inputs, y: u32, z: u32) -> Outputs
     ensures { result ≡ leaving x y (with_z z (with_n (sign_of 32 y) x.status)) }
 {
-    let mut status = x.held();
+    let mut status = x.status.held();
     status.n = bits::sign(y, 32);
     status.z = z;
     Outputs { y, q: x.q, status }

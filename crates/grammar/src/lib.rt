@@ -141,8 +141,7 @@ fn opcode(part: &[u8]) -> Option<u32>
     if part.is_empty() {
         return None;
     }
-    let columns = mnemonics::table();
-    columns
+    mnemonics::table()
         .iter()
         .position(|column| is_mnemonic(part, column))
         .map(|k| k as u32)

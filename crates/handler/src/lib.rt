@@ -96,25 +96,15 @@ fn fault(n: usize, s: u32, q: u32, saved: u64, k: usize, w: Word) -> bool
     requires { Narrow w × (saved ≡ saves s q) × (k < n) }
     ensures { result ≡ fault_at n s q k w }
 {
-    if k == 0 {
-        return saving_status_fault(saved, w);
+    match (k, n - k) {
+        (0, _) => saving_status_fault(saved, w),
+        (1, _) => saving_q_fault(saved, s, q, w),
+        (2, _) => loading_fault(0x06, saved, w),
+        (3, _) => loading_fault(0x1c, saved, w),
+        (_, 2) => giving_back_fault(0x06, q, saved, w),
+        (_, 1) => giving_back_fault(0x1c, s, saved, w),
+        _ => body_fault(saved, w),
     }
-    if k == 1 {
-        return saving_q_fault(saved, s, q, w);
-    }
-    if k == 2 {
-        return loading_fault(0x06, saved, w);
-    }
-    if k == 3 {
-        return loading_fault(0x1c, saved, w);
-    }
-    if n - k == 2 {
-        return giving_back_fault(0x06, q, saved, w);
-    }
-    if n - k == 1 {
-        return giving_back_fault(0x1c, s, saved, w);
-    }
-    body_fault(saved, w)
 }
 
 // The first of n words that is at fault.

@@ -15,9 +15,6 @@ const DISTANCES: [u32; 8] = [
     0x00_0000, 0x00_0001, 0x7f_fff0, 0x7f_ffff, 0x80_0000, 0x80_0001, 0xf0_0000, 0xff_ffff,
 ];
 
-// The pairs of them.
-const PAIRS: usize = 64;
-
 const FIFTEEN: u32 = 0x15;
 
 const FIFTY: u32 = 0x50;
@@ -44,17 +41,17 @@ fn print_choice(sheet: &[u8], fifteen: u32, fifty: u32) {
     print_word(nearer(fifteen, fifty), b'\n');
 }
 
-// The pair of a number below 64.
-fn print_pair(sheet: &[u8], pair: usize) {
-    print_choice(sheet, DISTANCES[pair / 8 % 8], DISTANCES[pair % 8]);
+// A line for each distance to 'fifty'.
+fn print_choices(sheet: &[u8], fifteen: u32) {
+    for fifty in DISTANCES {
+        print_choice(sheet, fifteen, fifty);
+    }
 }
 
 fn main() {
     let mut sheet = [0u8; 40];
     io::read_full(0, &mut sheet);
-    let mut pair: usize = 0;
-    while pair < PAIRS {
-        print_pair(&sheet, pair);
-        pair += 1;
+    for fifteen in DISTANCES {
+        print_choices(&sheet, fifteen);
     }
 }

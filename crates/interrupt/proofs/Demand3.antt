@@ -8,25 +8,22 @@ use lib.ListN.{length}
 use lib.Seq.{take-length}
 use Rattle.machine.specs.declared.Machine.{Machine}
 use Rattle.machine.specs.Core.{handed_back}
-use Rattle.reasons.specs.Reasons.{outcome_of}
-use Rattle.reasons.specs.declared.Reason.TheVariants.{Done}
-use Rattle.reasons.specs.declared.Check.TheVariants.{Good as Passing}
+use Rattle.std.proofs.Common.{Some, None as Nothing, Ok, Err}
+use Rattle.std.specs.Prelude.{IsOk}
+use Rattle.reasons.specs.Reasons.{good}
 use Rattle.chip.specs.declared.Word.{Word}
 use Rattle.chip.specs.Lists.{State, read_at, execs}
 use Rattle.chip.proofs.Words.{execs-append, execs-size}
 use Rattle.packing.specs.Registers.{is_in}
 use Rattle.sheet.specs.Sheet.{words_of, word_at, executions_of, names_in, check_of, WordReady, Ready}
-use Rattle.sheet.specs.declared.Given.TheVariants.{Absent, Number}
 use Rattle.sheet.proofs.Positions.{All}
 use Rattle.sheet.proofs.Table.{ready, start-later}
 use Rattle.run.specs.Run.{entering, Sane, Ended, ran}
 use Rattle.run.proofs.Laws.{each_ready, execs_sane}
 use Rattle.run.proofs.Parts.{run_is, entering_sane, back}
 use Rattle.handler.specs.Form.{saves_status, saves_q}
-use Rattle.interrupt.specs.declared.Verdict.{Verdict}
-use Rattle.interrupt.specs.declared.Verdict.TheVariants.{Fine, Refused}
 use Rattle.interrupt.specs.declared.Served.{Served}
-use Rattle.interrupt.specs.Interrupt.{verdict_of, Left, left, served_by, unless_refused, line_of, interrupted_of, mark_of, served_outcome, Numbered}
+use Rattle.interrupt.specs.Interrupt.{Verdict, fine, verdict_of, Left, left, served_by, unless_refused, line_of, interrupted_of, mark_in, served_numbers, mark_of, served_outcome, Numbered}
 use Rattle.interrupt.specs.Demand3.{alone, again, Own, NoTrace}
 use Rattle.interrupt.proofs.Owners.{Names, Agree, Same, Handler, Line, times}
 use Rattle.interrupt.proofs.NoTrace.{undisturbed, alike, untouched}
@@ -36,23 +33,23 @@ use Rattle.interrupt.proofs.Formed.{shares_none, all_named, ready_64, long, save
 use Rattle.interrupt.proofs.Told.{done_fine}
 
 -- ---- a sheet by itself
-alone_is : (s file : List ℕ) (m : Machine) → check_of s (Number (length file)) Absent ≡ Passing → alone s file m ≡ ran (executions_of s) (entering file m)
+alone_is : (s file : List ℕ) (m : Machine) → check_of s (Some (length file)) Nothing ≡ good → alone s file m ≡ ran (executions_of s) (entering file m)
 alone_is s file m e =
-    run_is s file m 0 (length (executions_of s)) (start-later s (Number (length file)) Absent 0 e (omega arith))
+    run_is s file m 0 (length (executions_of s)) (start-later s (Some (length file)) Nothing 0 e (omega arith))
     ∙ ap (λ (ws : List Word). ran ws (entering file m)) (take-length (executions_of s))
 
-again_is : (k : ℕ) (s file : List ℕ) (m : Machine) → check_of s (Number (length file)) Absent ≡ Passing → Sane (entering file m)
+again_is : (k : ℕ) (s file : List ℕ) (m : Machine) → check_of s (Some (length file)) Nothing ≡ good → Sane (entering file m)
     → again k s file m ≡ (execs (times k (executions_of s)) (entering file m)).file
 unfolding again times execs
 again_is zero s file m e h = refl
 again_is (suc k) s file m e h =
     let t : State = execs (executions_of s) (entering file m) in
-    let sane : Sane t = execs_sane (length file) (executions_of s) (entering file m) (each_ready s (length file) (ready s (length file) Absent e)) h in
+    let sane : Sane t = execs_sane (length file) (executions_of s) (entering file m) (each_ready s (length file) (ready s (length file) Nothing e)) h in
     let b : entering t.file (handed_back t.core) ≡ t = back t sane in
-    let good : check_of s (Number (length t.file)) Absent ≡ Passing
-    = ap (λ (n : ℕ). check_of s (Number n) Absent) (execs-size (executions_of s) (entering file m)) ∙ e in
+    let passes : check_of s (Some (length t.file)) Nothing ≡ good
+    = ap (λ (n : ℕ). check_of s (Some n) Nothing) (execs-size (executions_of s) (entering file m)) ∙ e in
     ap (λ (x : Ended). again k s x.file x.answer.machine) (alone_is s file m e)
-    ∙ again_is k s t.file (handed_back t.core) good (subst Sane (sym b) sane)
+    ∙ again_is k s t.file (handed_back t.core) passes (subst Sane (sym b) sane)
     ∙ ap (λ (x : State). (execs (times k (executions_of s)) x).file) b
     ∙ ap (λ (x : State). x.file) (sym (execs-append (executions_of s) (times k (executions_of s)) (entering file m)))
 
@@ -79,11 +76,11 @@ module _ (main h schedule file : List ℕ) (m : Machine) (registers : (r : ℕ) 
   abbrev outcome : Left
   outcome = interrupted_of main h schedule file m
 
-  traceless : verdict_of main h schedule (length file) ≡ Fine → NoTrace main h schedule file m outcome.answer.machine outcome.file
+  traceless : verdict_of main h schedule (length file) ≡ fine → NoTrace main h schedule file m outcome.answer.machine outcome.file
   traceless fine =
       let p : Passed main h schedule (length file) = passed main h schedule (length file) fine in
-      let rm : Ready main (length file) = ready main (length file) Absent p.main_good in
-      let rh : Ready h (length file) = ready h (length file) Absent p.handler_good in
+      let rm : Ready main (length file) = ready main (length file) Nothing p.main_good in
+      let rh : Ready h (length file) = ready h (length file) Nothing p.handler_good in
       let fits : (k : ℕ) → k < words_of h → WordReady 64 (word_at h k) = λ k i. ready_64 h (length file) k rh i in
       let six : 6 ≤ words_of h = long h fits p.form in
       let F : Handler own s₀ q₀ (executions_of h) = is_handler h fits p.form in
@@ -128,23 +125,23 @@ module _ (main h schedule file : List ℕ) (m : Machine) (registers : (r : ℕ) 
   -- Whatever answer a and registers l meet the promise of `interrupted`: where the call is not refused, (a) every register that the main list
   -- names, Q and status end as in its undisturbed run, (b) every register that the handler names, s and q apart, ends as if the handler had run
   -- that often by itself, one whole run after another, from the same start, and (c) registers that neither names are as they were.
-  pub no_trace : (a : Served) (l : List ℕ) → left a l ≡ outcome → a.reason ≡ Done → NoTrace main h schedule file m a.machine l
+  pub no_trace : (a : Served) (l : List ℕ) → left a l ≡ outcome → IsOk a.outcome → NoTrace main h schedule file m a.machine l
   no_trace a l e d =
       subst (λ (x : Left). NoTrace main h schedule file m x.answer.machine x.file) (sym e)
-      (traceless (done_fine main h schedule file m (sym (ap (λ (x : Left). x.answer.reason) e) ∙ d)))
+      (traceless (done_fine main h schedule file m (subst (λ (x : Left). IsOk x.answer.outcome) e d)))
 
   numbered : Numbered main h schedule (length file) outcome.answer
   unfolding interrupted_of
   numbered = go (verdict_of main h schedule (length file))
     where
-      go : (v : Verdict) → ((unless_refused v file m (served_by line t)).answer.mark ≡ mark_of v)
-          × (outcome_of (unless_refused v file m (served_by line t)).answer.reason (unless_refused v file m (served_by line t)).answer.place ≡ served_outcome v (length line))
-      go Fine = (refl, refl)
-      go (Refused k r p) = (refl, refl)
+      go : (v : Verdict) → (mark_in (unless_refused v file m (served_by line t)).answer.outcome ≡ mark_of v)
+          × (served_numbers (unless_refused v file m (served_by line t)).answer.outcome ≡ served_outcome v (length line))
+      go (Ok done) = (refl, refl)
+      go (Err fault) = (refl, refl)
 
   -- the three clauses of the promise, from the first
   pub promised : (a : Served) (l : List ℕ) → left a l ≡ outcome
-      → (left a l ≡ outcome) × (Numbered main h schedule (length file) a × (a.reason ≡ Done → NoTrace main h schedule file m a.machine l))
+      → (left a l ≡ outcome) × (Numbered main h schedule (length file) a × (IsOk a.outcome → NoTrace main h schedule file m a.machine l))
   promised a l e = (
     e,
     (subst (λ (x : Left). Numbered main h schedule (length file) x.answer) (sym e) numbered, no_trace a l e),

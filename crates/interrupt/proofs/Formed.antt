@@ -9,7 +9,7 @@ use borrow.Author.Tests.{eqb-true, eqb-false, eq-eqb, ne_eqb, ltb-false, not-fal
 use lib.Bits.{bit_or}
 use lib.Dec.{eqb}
 use Rattle.reasons.specs.Reasons.{rows_by}
-use Rattle.reasons.specs.declared.Check.TheVariants.{Good}
+use Rattle.reasons.specs.Reasons.{good}
 use Rattle.reasons.proofs.Rows.{None, good_none, none_at}
 use Rattle.reasons.proofs.Rows.None.{none, more}
 use Rattle.chip.specs.declared.Word.{Word}
@@ -51,7 +51,7 @@ pub all_named : (s : List ℕ) (n : ℕ) → Ready s n → All (Names (λ r. is_
 all_named s n r = all-executions (Names (λ x. is_in (names_in s) x ≡ true)) s (λ k i. record { only = λ x e. named_in s k x i e; ready = ready_64 s n k r i })
 
 -- ---- no register in common
-pub shares_none : (main h : List ℕ) → overlap_of main h ≡ Good → (r : ℕ) → is_in (names_in main) r ≡ true → is_in (names_in h) r ≡ true → ⊥
+pub shares_none : (main h : List ℕ) → overlap_of main h ≡ good → (r : ℕ) → is_in (names_in main) r ≡ true → is_in (names_in h) r ≡ true → ⊥
 shares_none main h e r a b = common-none (names_in main) (names_in h) r (good_apart main h e) a b
 
 -- ---- the clauses of the form
@@ -223,21 +223,21 @@ module _ (h : List ℕ) (ready : (k : ℕ) → k < words_of h → WordReady 64 (
           from-s = alike v₂.a s (or_right (not_fixed v₂ 0x1c 0) (differ v₂.a s) d₂);
         }
 
-  pub long : form_of h ≡ Good → 6 ≤ n
+  pub long : form_of h ≡ good → 6 ≤ n
   unfolding form_of
   long e = go (good_none (form_rows h) e)
     where
       go : None (form_rows h) → 6 ≤ n
       go (more x t) = ltb-false n 6 x
 
-  pub saves-named : form_of h ≡ Good → (is_in (names_in h) s ≡ true) × (is_in (names_in h) q ≡ true)
+  pub saves-named : form_of h ≡ good → (is_in (names_in h) s ≡ true) × (is_in (names_in h) q ≡ true)
   unfolding form_of
   saves-named e = go (good_none (form_rows h) e)
     where
       go : None (form_rows h) → (is_in (names_in h) s ≡ true) × (is_in (names_in h) q ≡ true)
       go (more x t) = both-named (ltb-false n 6 x) t
 
-  pub is_handler : form_of h ≡ Good → Handler (Own h) s q (executions_of h)
+  pub is_handler : form_of h ≡ good → Handler (Own h) s q (executions_of h)
   unfolding form_of
   is_handler e = go (good_none (form_rows h) e)
     where

@@ -11,63 +11,60 @@ use Rattle.machine.specs.declared.Core.{Core}
 use Rattle.machine.specs.Status.{Good as Sound}
 use Rattle.machine.specs.Core.{taken, handed_back}
 use Rattle.machine.proofs.Handed.{taken_good}
-use Rattle.reasons.specs.Reasons.{rows_by}
-use Rattle.reasons.specs.declared.Reason.{Reason}
-use Rattle.reasons.specs.declared.Reason.TheVariants.{Done}
-use Rattle.reasons.specs.declared.Check.{Check}
-use Rattle.reasons.specs.declared.Check.TheVariants.{Good, Bad}
+use Rattle.std.proofs.Common.{Option, Some, None as Nothing, Ok, Err}
+use Rattle.reasons.specs.Reasons.{Check, good, rows_by}
+use Rattle.reasons.specs.declared.Refusal.{Refusal}
+use Rattle.sheet.specs.declared.Which.{Which}
 use Rattle.reasons.proofs.Rows.{None, good_none, none_at}
 use Rattle.reasons.proofs.Rows.None.{more}
 use Rattle.sheet.specs.Sheet.{executions_of, check_of, Ready}
-use Rattle.sheet.specs.declared.Given.TheVariants.{Absent, Number}
 use Rattle.sheet.proofs.Table.{ready}
 use Rattle.run.specs.declared.Going.{Going}
-use Rattle.run.specs.Run.{Ended, entering, Went}
+use Rattle.run.specs.Run.{Ended, count_in, entering, Went}
 use Rattle.run.proofs.Parts.{went_ran}
 use Rattle.handler.specs.Form.{form_of}
 use Rattle.handler.specs.Overlap.{overlap_of}
 use Rattle.handler.specs.Schedule.{schedule_of, schedule_row}
-use Rattle.interrupt.specs.declared.Verdict.{Verdict}
-use Rattle.interrupt.specs.declared.Verdict.TheVariants.{Fine, Refused}
+use Rattle.interrupt.specs.declared.Fault.{Fault}
 use Rattle.interrupt.specs.Serve.{Rising}
 use Rattle.interrupt.proofs.Lines.{line_short}
-use Rattle.interrupt.specs.Interrupt.{in_neither, in_main, in_handler, marking, pair_of, verdict_of, left, served_by, unless_refused, line_of, interrupted_of}
+use Rattle.interrupt.specs.Interrupt.{Verdict, fine, in_neither, in_main, in_handler, marking, pair_of, verdict_of, left, served_by, unless_refused, line_of, interrupted_of}
 
 -- ---- through the order of the reasons
-marking_good : (k : ℕ) (c : Check) (v : Verdict) → marking k c v ≡ Fine → c ≡ Good
-marking_good k Good v e = refl
-marking_good k (Bad r p) v e = absurd (let z : ◌≡◌ {A = ℕ} 0 1 = cc in omega arith)
+pub marking_good : (k : Option Which) (c : Check) (v : Verdict) → marking k c v ≡ fine → c ≡ good
+marking_good k (Ok done) v e = refl
+marking_good k (Err x) v e = cc
 
-marking-next : (k : ℕ) (c : Check) (v : Verdict) → marking k c v ≡ Fine → v ≡ Fine
-marking-next k Good v e = e
-marking-next k (Bad r p) v e = absurd (let z : ◌≡◌ {A = ℕ} 0 1 = cc in omega arith)
+marking-next : (k : Option Which) (c : Check) (v : Verdict) → marking k c v ≡ fine → v ≡ fine
+marking-next k (Ok done) v e = e
+marking-next k (Err x) v e = cc
 
 -- nothing refused
 pub record Passed (main h schedule : List ℕ) (lent : ℕ) : Type 0 where
-  pub main_good : check_of main (Number lent) Absent ≡ Good
-  pub handler_good : check_of h (Number lent) Absent ≡ Good
-  pub form : form_of h ≡ Good
-  pub overlap : overlap_of main h ≡ Good
-  pub schedule_good : schedule_of schedule (length (executions_of main)) ≡ Good
+  pub main_good : check_of main (Some lent) Nothing ≡ good
+  pub handler_good : check_of h (Some lent) Nothing ≡ good
+  pub form : form_of h ≡ good
+  pub overlap : overlap_of main h ≡ good
+  pub schedule_good : schedule_of schedule (length (executions_of main)) ≡ good
 
-pub passed : (main h schedule : List ℕ) (lent : ℕ) → verdict_of main h schedule lent ≡ Fine → Passed main h schedule lent
+pub passed : (main h schedule : List ℕ) (lent : ℕ) → verdict_of main h schedule lent ≡ fine → Passed main h schedule lent
 unfolding verdict_of pair_of
 passed main h schedule lent e =
-    let a : Check = check_of main (Number lent) Absent in
-    let b : Check = check_of h (Number lent) Absent in
+    let a : Check = check_of main (Some lent) Nothing in
+    let b : Check = check_of h (Some lent) Nothing in
     let f : Check = form_of h in
     let c : Check = overlap_of main h in
     let d : Check = schedule_of schedule (length (executions_of main)) in
     let e₁ = marking-next in_main a (marking in_handler b (pair_of main h schedule)) e in
     let e₂ = marking-next in_handler b (pair_of main h schedule) e₁ in
-    let e₃ = marking-next in_handler f (marking in_main c (marking in_neither d Fine)) e₂ in
-    let e₄ = marking-next in_main c (marking in_neither d Fine) e₃ in
+    let e₃ = marking-next in_handler f (marking in_main c (marking in_neither d fine)) e₂ in
+    let e₄ = marking-next in_main c (marking in_neither d fine) e₃ in
     record {
       main_good = marking_good in_main a (marking in_handler b (pair_of main h schedule)) e;
       handler_good = marking_good in_handler b (pair_of main h schedule) e₁;
-      form = marking_good in_handler f (marking in_main c (marking in_neither d Fine)) e₂;
-      overlap = marking_good in_main c (marking in_neither d Fine) e₃;
-      schedule_good = marking_good in_neither d Fine e₄;
+      form = marking_good in_handler f (marking in_main c (marking in_neither d fine)) e₂;
+      overlap = marking_good in_main c (marking in_neither d fine) e₃;
+      schedule_good = marking_good in_neither d fine e₄;
     }
 
 -- ---- a schedule that is not refused
@@ -80,16 +77,16 @@ rising_of n at (b ∷ bs) h f =
 entry_fine : (bs : List ℕ) (n j : ℕ) → None (schedule_row bs n j) → (j < 1024) × (get_or bs j 0 ≤ n) × (get_or (0 ∷ bs) j 0 ≤ get_or bs j 0)
 entry_fine bs n j (more h₁ (more h₂ (more h₃ t))) = (leb-false _ _ h₁, ltb-false _ _ h₂, ltb-false _ _ h₃)
 
-all_fine : (bs : List ℕ) (n : ℕ) → schedule_of bs n ≡ Good → (j : ℕ) → j < length bs → (j < 1024) × (get_or bs j 0 ≤ n) × (get_or (0 ∷ bs) j 0 ≤ get_or bs j 0)
+all_fine : (bs : List ℕ) (n : ℕ) → schedule_of bs n ≡ good → (j : ℕ) → j < length bs → (j < 1024) × (get_or bs j 0 ≤ n) × (get_or (0 ∷ bs) j 0 ≤ get_or bs j 0)
 unfolding schedule_of
 all_fine bs n e j i =
     entry_fine bs n j
     (none_at (schedule_row bs n) 0 (length bs) (good_none (rows_by (schedule_row bs n) 0 (length bs)) e) j (omega arith) (omega arith))
 
-pub rising : (bs : List ℕ) (n : ℕ) → schedule_of bs n ≡ Good → Rising n 0 bs
+pub rising : (bs : List ℕ) (n : ℕ) → schedule_of bs n ≡ good → Rising n 0 bs
 rising bs n e = rising_of n 0 bs (omega arith) (λ j i. ((all_fine bs n e j i).1, (all_fine bs n e j i).2))
 
-pub not_long : (bs : List ℕ) (n : ℕ) → schedule_of bs n ≡ Good → length bs ≤ 1024
+pub not_long : (bs : List ℕ) (n : ℕ) → schedule_of bs n ≡ good → length bs ≤ 1024
 not_long bs n e = go (dec_lt 1024 (length bs))
   where
     go : Dec (1024 < length bs) → length bs ≤ 1024
@@ -98,61 +95,69 @@ not_long bs n e = go (dec_lt 1024 (length bs))
 
 -- ---- the two ways in which an interrupted run ends
 module _ (main h schedule file : List ℕ) (m : Machine) where
-  pub interrupted-refused : (k : ℕ) (r : Reason) (p : ℕ) → verdict_of main h schedule (length file) ≡ Refused k r p
-      → left (record { mark = k; reason = r; place = p; machine = m }) file ≡ interrupted_of main h schedule file m
+  pub interrupted-refused : (x : Fault) → verdict_of main h schedule (length file) ≡ Err x
+      → left (record { outcome = Err x; machine = m }) file ≡ interrupted_of main h schedule file m
   unfolding interrupted_of
-  interrupted-refused k r p e = sym (ap (λ (v : Verdict). unless_refused v file m (served_by (line_of main h schedule) (entering file m))) e)
+  interrupted-refused x e = sym (ap (λ (v : Verdict). unless_refused v file m (served_by (line_of main h schedule) (entering file m))) e)
 
-  pub interrupted_is : verdict_of main h schedule (length file) ≡ Fine → interrupted_of main h schedule file m ≡ served_by (line_of main h schedule) (entering file m)
+  pub interrupted_is : verdict_of main h schedule (length file) ≡ fine → interrupted_of main h schedule file m ≡ served_by (line_of main h schedule) (entering file m)
   unfolding interrupted_of
   interrupted_is e = ap (λ (v : Verdict). unless_refused v file m (served_by (line_of main h schedule) (entering file m))) e
 
   -- from the executions that went, counted
-  pub interrupted_done : (l : List ℕ) (c : Core) (g : Going) (v : Machine) → verdict_of main h schedule (length file) ≡ Fine
+  pub interrupted_done : (l : List ℕ) (c : Core) (g : Going) (v : Machine) → verdict_of main h schedule (length file) ≡ fine
       → c ≡ taken m → Went (line_of main h schedule) file (record { core = c; count = 0 }) l g → v ≡ handed_back g.core
-      → left (record { mark = in_neither; reason = Done; place = g.count; machine = v }) l ≡ interrupted_of main h schedule file m
+      → left (record { outcome = Ok g.count; machine = v }) l ≡ interrupted_of main h schedule file m
   interrupted_done l c g v e ec w ev =
-      ap (λ (x : Ended). left (record { mark = in_neither; reason = x.answer.reason; place = x.answer.place; machine = x.answer.machine }) x.file)
+      ap (λ (x : Ended). left (record { outcome = Ok (count_in x.answer.outcome); machine = x.answer.machine }) x.file)
       (went_ran (line_of main h schedule) file m l c g v ec w ev)
       ∙ sym (interrupted_is e)
 
 -- ---- the ways of the verdict, in the order of the reasons
+marking-stops : (k : Option Which) (c : Check) (v : Verdict) {x : Fault} → marking k c fine ≡ Err x → marking k c v ≡ Err x
+marking-stops k (Ok done) v e = cc
+marking-stops k (Err y) v e = e
+
+marking-goes : (k : Option Which) (c : Check) (v : Verdict) → marking k c fine ≡ fine → marking k c v ≡ v
+marking-goes k c v e = rw (marking_good k c fine e) refl
+
 module _ (main h schedule : List ℕ) where
-  pub pair_form : (r : Reason) (p : ℕ) → form_of h ≡ Bad r p → Refused in_handler r p ≡ pair_of main h schedule
+  pub pair_form : {x : Fault} → marking in_handler (form_of h) fine ≡ Err x → Err x ≡ pair_of main h schedule
   unfolding pair_of
-  pair_form r p f = rw f refl
+  pair_form f = sym (marking-stops in_handler (form_of h) _ f)
 
-  pub pair_overlap : (r : Reason) (p : ℕ) → form_of h ≡ Good → overlap_of main h ≡ Bad r p → Refused in_main r p ≡ pair_of main h schedule
+  pub pair_overlap : {x : Fault} → marking in_handler (form_of h) fine ≡ fine → marking in_main (overlap_of main h) fine ≡ Err x → Err x ≡ pair_of main h schedule
   unfolding pair_of
-  pair_overlap r p f o = rw (f, o) refl
+  pair_overlap f o = sym (marking-goes in_handler (form_of h) _ f ∙ marking-stops in_main (overlap_of main h) _ o)
 
-  pub pair_schedule : (n : ℕ) (c : Check) → form_of h ≡ Good → overlap_of main h ≡ Good → n ≡ length (executions_of main) → c ≡ schedule_of schedule n
-      → marking in_neither c Fine ≡ pair_of main h schedule
+  pub pair_schedule : (n : ℕ) (c : Check) → marking in_handler (form_of h) fine ≡ fine → marking in_main (overlap_of main h) fine ≡ fine
+      → n ≡ length (executions_of main) → c ≡ schedule_of schedule n → marking in_neither c fine ≡ pair_of main h schedule
   unfolding pair_of
-  pair_schedule n c f o e k = rw (f, o, k, e) refl
+  pair_schedule n c f o e k = sym (marking-goes in_handler (form_of h) _ f ∙ marking-goes in_main (overlap_of main h) _ o ∙ rw (k, e) refl)
 
   module _ (lent : ℕ) where
-    pub judged_main : (r : Reason) (p : ℕ) → check_of main (Number lent) Absent ≡ Bad r p → Refused in_main r p ≡ verdict_of main h schedule lent
+    pub judged_main : {x : Fault} → marking in_main (check_of main (Some lent) Nothing) fine ≡ Err x → Err x ≡ verdict_of main h schedule lent
     unfolding verdict_of
-    judged_main r p e = rw e refl
+    judged_main e = sym (marking-stops in_main (check_of main (Some lent) Nothing) _ e)
 
-    pub judged_handler : (r : Reason) (p : ℕ) → check_of main (Number lent) Absent ≡ Good → check_of h (Number lent) Absent ≡ Bad r p
-        → Refused in_handler r p ≡ verdict_of main h schedule lent
+    pub judged_handler : {x : Fault} → marking in_main (check_of main (Some lent) Nothing) fine ≡ fine → marking in_handler (check_of h (Some lent) Nothing) fine ≡ Err x
+        → Err x ≡ verdict_of main h schedule lent
     unfolding verdict_of
-    judged_handler r p e f = rw (e, f) refl
+    judged_handler e f = sym (marking-goes in_main (check_of main (Some lent) Nothing) _ e ∙ marking-stops in_handler (check_of h (Some lent) Nothing) _ f)
 
-    pub judged_pair : check_of main (Number lent) Absent ≡ Good → check_of h (Number lent) Absent ≡ Good → pair_of main h schedule ≡ verdict_of main h schedule lent
+    pub judged_pair : marking in_main (check_of main (Some lent) Nothing) fine ≡ fine → marking in_handler (check_of h (Some lent) Nothing) fine ≡ fine
+        → pair_of main h schedule ≡ verdict_of main h schedule lent
     unfolding verdict_of
-    judged_pair e f = rw (e, f) refl
+    judged_pair e f = sym (marking-goes in_main (check_of main (Some lent) Nothing) _ e ∙ marking-goes in_handler (check_of h (Some lent) Nothing) _ f)
 
 -- what a call that is not refused can be served with
-pub serve_ready : (main h schedule : List ℕ) (lent : ℕ) (m : Machine) (c : Core) → verdict_of main h schedule lent ≡ Fine → c ≡ taken m
+pub serve_ready : (main h schedule : List ℕ) (lent : ℕ) (m : Machine) (c : Core) → verdict_of main h schedule lent ≡ fine → c ≡ taken m
     → (Ready main lent × Ready h lent × Sound c.status)
     × (Rising (length (executions_of main)) 0 schedule × (0 + length (line_of main h schedule) < 2 ^ 64))
 serve_ready main h schedule lent m c e ec =
     let p : Passed main h schedule lent = passed main h schedule lent e in
     let r : Rising (length (executions_of main)) 0 schedule = rising schedule (length (executions_of main)) p.schedule_good in
     let n : length (line_of main h schedule) < 2 ^ 64 = line_short main h schedule r (not_long schedule (length (executions_of main)) p.schedule_good) in (
-      (ready main lent Absent p.main_good, ready h lent Absent p.handler_good, subst (λ (x : Core). Sound x.status) (sym ec) (taken_good m)),
+      (ready main lent Nothing p.main_good, ready h lent Nothing p.handler_good, subst (λ (x : Core). Sound x.status) (sym ec) (taken_good m)),
       (r, omega arith),
     )

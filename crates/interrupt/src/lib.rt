@@ -1,103 +1,93 @@
 // Runs a main sheet with a handler let in at the boundaries of a schedule.
 #![tactic(auto)]
 
-ghost use Rattle.std.specs.Prelude.{◌≡◌, ◌++◌, ◌+◌, ◌^◌, ◌≤◌, ◌<◌, length};
+ghost use Rattle.std.specs.Prelude.{◌≡◌, ◌++◌, ◌+◌, ◌^◌, ◌≤◌, ◌<◌, length, IsOk};
 ghost use Rattle.machine.specs.Status.{Good};
 ghost use Rattle.sheet.specs.Sheet.{executions_of, between, Ready};
 ghost use Rattle.run.specs.Run.{Went};
 ghost use Rattle.interrupt.specs.Serve.{Rising};
-ghost use Rattle.interrupt.specs.Interrupt.{marking, pair_of, verdict_of, left, line_of, interrupted_of, Numbered};
+ghost use Rattle.interrupt.specs.Interrupt.{fine, marking, pair_of, verdict_of, left, line_of, interrupted_of, mark_in, served_numbers, Numbered};
 ghost use Rattle.interrupt.specs.Demand3.{NoTrace};
 
 use machine::Machine;
-use reasons::{Check, Reason};
+use reasons::{Outcome, Reason, Refusal};
 use run::Going;
 use sheet::Which;
 
-// Whether an interrupted run is refused: the mark of the sheet that the fault is in (0 neither, 1 main, 2 handler), the reason and its place.
+// A fault: its mark, which is the sheet that it is in, or none of the two, and the refusal.
 #[derive(Clone, Copy)]
-pub enum Verdict {
-    Fine,
-    Refused {
-        mark: u32,
-        reason: Reason,
-        place: usize,
-    },
+pub struct Fault {
+    pub mark: Option<Which>,
+    pub refusal: Refusal,
 }
 
-// What an interrupted run answers: done, with the number of words run as its place, or a refusal; Q and status.
+// What an interrupted run answers: the number of words run, or the fault for which it is refused; Q and status.
 #[derive(Clone, Copy)]
 pub struct Served {
-    pub mark: u32,
-    pub reason: Reason,
-    pub place: usize,
+    pub outcome: Result<usize, Fault>,
     pub machine: Machine,
+}
+
+impl Served {
+    // The mark's number: 0 neither, 1 main, 2 handler.
+    pub fn mark(self) -> u32
+        ensures { result ≡ mark_in self.outcome }
+    {
+        let Err(fault) = self.outcome else {
+            return 0;
+        };
+        match fault.mark {
+            None => 0,
+            Some(Which::Main) => 1,
+            Some(Which::Handler) => 2,
+        }
+    }
+
+    // The answer in numbers, its mark apart.
+    pub fn numbered(self) -> Outcome
+        ensures { result ≡ served_numbers self.outcome }
+    {
+        match self.outcome {
+            Ok(count) => reasons::numbered(Reason::Done, count),
+            Err(fault) => Outcome::from(fault.refusal),
+        }
+    }
 }
 
 // ---- the reasons
 
-// A check with its mark, and what follows where it is good.
-fn then(mark: u32, check: Check, next: Verdict) -> Verdict
-    ensures { result ≡ marking mark check next }
+// A check with its mark.
+fn marked(mark: Option<Which>, check: Result<(), Refusal>) -> Result<(), Fault>
+    ensures { result ≡ marking mark check fine }
 {
     match check {
-        Check::Bad { reason, place } => Verdict::Refused {
-            mark,
-            reason,
-            place,
-        },
-        Check::Good => next,
+        Ok(()) => Ok(()),
+        Err(refusal) => Err(Fault { mark, refusal }),
     }
 }
 
 // Reasons 11 to 13, of two sheets that are not refused themselves.
-fn judge_pair<'a>(main: &'a [u8], handler: &'a [u8], schedule: &[u16], lent: usize) -> Verdict
+fn judge_pair<'a>(
+    main: &'a [u8],
+    handler: &'a [u8],
+    schedule: &[u16],
+    lent: usize,
+) -> Result<(), Fault>
     requires { Ready main.now lent × Ready handler.now lent }
     ensures { result ≡ pair_of main.now handler.now schedule.now }
 {
-    let form = handler::form(handler);
-    if let Check::Bad { reason, place } = form {
-        return Verdict::Refused {
-            mark: 2,
-            reason,
-            place,
-        };
-    }
-    let overlap = handler::overlap(main, handler);
-    if let Check::Bad { reason, place } = overlap {
-        return Verdict::Refused {
-            mark: 1,
-            reason,
-            place,
-        };
-    }
-    then(
-        0,
-        handler::check_schedule(schedule, sheet::executions(main)),
-        Verdict::Fine,
-    )
+    marked(Some(Which::Handler), handler::form(handler))?;
+    marked(Some(Which::Main), handler::overlap(main, handler))?;
+    let executions = sheet::executions(main);
+    marked(None, handler::check_schedule(schedule, executions))
 }
 
 // All reasons, in their order.
-fn judge<'a>(main: &'a [u8], handler: &'a [u8], schedule: &[u16], lent: usize) -> Verdict
+fn judge<'a>(main: &'a [u8], handler: &'a [u8], schedule: &[u16], lent: usize) -> Result<(), Fault>
     ensures { result ≡ verdict_of main.now handler.now schedule.now lent }
 {
-    let first = sheet::check_on_file(main, lent);
-    if let Check::Bad { reason, place } = first {
-        return Verdict::Refused {
-            mark: 1,
-            reason,
-            place,
-        };
-    }
-    let second = sheet::check_on_file(handler, lent);
-    if let Check::Bad { reason, place } = second {
-        return Verdict::Refused {
-            mark: 2,
-            reason,
-            place,
-        };
-    }
+    marked(Some(Which::Main), sheet::check_on_file(main, lent))?;
+    marked(Some(Which::Handler), sheet::check_on_file(handler, lent))?;
     judge_pair(main, handler, schedule, lent)
 }
 
@@ -137,12 +127,10 @@ fn serve<'a>(
     let n = sheet::executions(handler);
     let mut on = going;
     let mut at: usize = 0;
-    let mut j: usize = 0;
-    while j < schedule.len() {
+    for j in 0..schedule.len() {
         let b = handler::boundary(schedule, j);
         on = turn(main, handler, file, on, at, b, n);
         at = b;
-        j += 1;
     }
     let end = sheet::executions(main);
     run::span(main, handler, Which::Main, file, on, at, end)
@@ -160,20 +148,12 @@ pub fn interrupted<'a>(
     ensures file_after { left result file.new
         ≡ interrupted_of main.now handler.now schedule.now file.old machine }
     ensures numbers { Numbered main.now handler.now schedule.now (length file.old) result }
-    ensures no_trace { result.reason ≡ Reason.Done
+    ensures no_trace { IsOk result.outcome
         → NoTrace main.now handler.now schedule.now file.old machine result.machine file.new }
 {
-    let verdict = judge(main, handler, schedule, file.len());
-    if let Verdict::Refused {
-        mark,
-        reason,
-        place,
-    } = verdict
-    {
+    if let Err(fault) = judge(main, handler, schedule, file.len()) {
         return Served {
-            mark,
-            reason,
-            place,
+            outcome: Err(fault),
             machine,
         };
     }
@@ -182,11 +162,8 @@ pub fn interrupted<'a>(
         count: 0,
     };
     let last = serve(main, handler, schedule, file, first);
-    let core = last.core;
     Served {
-        mark: 0,
-        reason: Reason::Done,
-        place: last.count,
-        machine: core.leave(),
+        outcome: Ok(last.count),
+        machine: last.core.leave(),
     }
 }

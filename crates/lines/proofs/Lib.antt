@@ -1,2 +1,2 @@
 -- These proofs assume nothing.
-mod Lists
+pub mod Cases

@@ -2,11 +2,13 @@
 // missed, and a word in print. A list is filled up with `-`, so that all lines are of one length.
 #![tactic(auto)]
 
-ghost use Rattle.std.specs.Prelude.{◌≡◌, true, ◌+◌, ◌≤◌, ◌<◌, min, length};
-ghost use Rattle.lines.specs.Lines.{joined_of, number_of, number_at, filled_of, Taken, counted_of};
+ghost use Rattle.std.specs.Prelude.{◌≡◌, ℕ, ◌+◌, ◌%◌, ◌≤◌, ◌<◌, length};
+ghost use Rattle.std.specs.Fn.{FnReturnsAt};
+ghost use Rattle.std.proofs.Common.{lit<};
+ghost use Rattle.lines.specs.Lines.{joined_of, number_of, number_at, filled_of, TakenAs, counted_of, Tallied};
 
 // How many cases were tried and missed, and the number of the first that was missed, counted from 1; 0 if none was.
-#[derive(Clone, Copy)]
+#[derive(Clone, Copy, Default)]
 pub struct Tally {
     pub cases: u32,
     pub missed: u32,
@@ -26,13 +28,7 @@ fn joined(n: u32, digit: u8) -> u32
 fn number(digits: &[u8]) -> u32
     ensures { result ≡ number_of digits.now }
 {
-    let mut n: u32 = 0;
-    let mut k: usize = 0;
-    while k < digits.len() {
-        n = joined(n, digits[k]);
-        k += 1;
-    }
-    n
+    digits.iter().fold(0, |n, digit| joined(n, *digit))
 }
 
 // The number of so many digits at a place of a line.
@@ -49,79 +45,74 @@ pub fn number_at(line: &[u8], at: usize, digits: usize) -> u32
 fn filled(list: &[u8]) -> usize
     ensures { (result ≡ filled_of list.now) × (result ≤ length list.now) }
 {
-    let mut k: usize = 0;
-    while k < list.len() {
-        if list[k] == b'-' {
-            return k;
-        }
-        k += 1;
-    }
-    k
+    list.iter().take_while(|c| **c != b'-').count()
 }
 
-fn least(a: usize, b: usize) -> usize
-    ensures { result ≡ min a b }
-{
-    if a < b {
-        return a;
-    }
-    b
+// What a list is of: numbers of so many hex digits each, of which a type's bits are kept.
+pub trait Listed: Copy + Drop {
+    ghost DIGITS: { ℕ };
+
+    ghost kept: { ℕ → Self };
+
+    ghost some_digits: { 0 < DIGITS };
+
+    const DIGITS: usize;
+
+    fn kept(number: u32) -> Self
+        ensures { result ≡ kept number };
 }
 
-// A list's numbers of two digits into `to`, as far as there is room; how many there were.
-pub fn bytes(list: &[u8], to: &mut [u8]) -> usize
-    ensures { Taken 2 256 list.now to.old result to.new }
-{
-    let n = least(filled(list) / 2, to.len());
-    let mut k: usize = 0;
-    while k < n {
-        to[k] = (number_at(list, 2 * k, 2) % 0x100) as u8;
-        k += 1;
+impl Listed for u8 {
+    ghost DIGITS = { 2 };
+
+    ghost kept = { λ n. n % 256 };
+
+    ghost some_digits = { lit< tt };
+
+    const DIGITS: usize = 2;
+
+    fn kept(number: u32) -> u8 {
+        (number % 0x100) as u8
     }
-    k
 }
 
-// Of four digits.
-pub fn halves(list: &[u8], to: &mut [u16]) -> usize
-    ensures { Taken 4 65536 list.now to.old result to.new }
-{
-    let n = least(filled(list) / 4, to.len());
-    let mut k: usize = 0;
-    while k < n {
-        to[k] = (number_at(list, 4 * k, 4) % 0x1_0000) as u16;
-        k += 1;
+impl Listed for u16 {
+    ghost DIGITS = { 4 };
+
+    ghost kept = { λ n. n % 65536 };
+
+    ghost some_digits = { lit< tt };
+
+    const DIGITS: usize = 4;
+
+    fn kept(number: u32) -> u16 {
+        (number % 0x1_0000) as u16
     }
-    k
 }
 
-// Of eight digits.
-pub fn words(list: &[u8], to: &mut [u32]) -> usize
-    ensures { Taken 8 4294967296 list.now to.old result to.new }
-{
-    let n = least(filled(list) / 8, to.len());
-    let mut k: usize = 0;
-    while k < n {
-        to[k] = number_at(list, 8 * k, 8);
-        k += 1;
+impl Listed for u32 {
+    ghost DIGITS = { 8 };
+
+    ghost kept = { λ n. n % 4294967296 };
+
+    ghost some_digits = { lit< tt };
+
+    const DIGITS: usize = 8;
+
+    fn kept(number: u32) -> u32 {
+        number
     }
-    k
 }
 
-// Whether two lists of words are the same.
-pub fn same(a: &[u32], b: &[u32]) -> bool
-    ensures { (result ≡ true → a.now ≡ b.now) × (a.now ≡ b.now → result ≡ true) }
+// A list's numbers into `to`, as far as there is room; how many there were.
+pub fn numbers<T: Listed>(list: &[u8], to: &mut [T]) -> usize
+    ensures { TakenAs T.DIGITS T.kept list.now to.old result to.new }
 {
-    if a.len() != b.len() {
-        return false;
+    let n = to.len().min(filled(list) / T::DIGITS);
+    for k in 0..n {
+        to[k] = T::kept(number_at(list, T::DIGITS * k, T::DIGITS));
     }
-    let mut k: usize = 0;
-    while k < a.len() {
-        if a[k] != b[k] {
-            return false;
-        }
-        k += 1;
-    }
-    true
+    n
 }
 
 // ---- cases
@@ -153,6 +144,22 @@ pub fn counted(tally: Tally, right: bool) -> Tally
     after
 }
 
+// The tally of standard input's lines, each of which is read into `line`, and right or missed.
+// Kept: a slice and not an array of N bytes, since no proof is made yet of a function whose bound `Fn` names N.
+pub fn tallied<F: Fn(&[u8]) -> bool>(line: &mut [u8], right: F) -> Tally
+    requires { F.IsAlwaysCallable right }
+    ensures { Tallied (FnReturnsAt F.Fn right) result }
+{
+    let mut tally = Tally::default();
+    for _ in 0..MOST {
+        if !read(line) {
+            break;
+        }
+        tally = counted(tally, right(line));
+    }
+    tally
+}
+
 // A tally's line.
 pub fn print_tally(tally: Tally) {
     io::print_decimal(1, tally.cases as u64);
@@ -170,8 +177,6 @@ pub fn print_tally(tally: Tally) {
 
 // A word's eight digits and one character after them.
 pub fn print_word(x: u32, after: u8) {
-    let digits = text::hex8(x);
-    io::write_all(1, &digits);
-    let end = [after; 1];
-    io::write_all(1, &end);
+    io::write_all(1, &text::hex::<8>(x as u64));
+    io::write_all(1, &[after]);
 }

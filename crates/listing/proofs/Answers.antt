@@ -66,7 +66,7 @@ module _ (s d : List ℕ) where
 
   -- the numbers of the answer are those of the table
   pub list-numbers : (a : Result ℕ Refusal) (b : List ℕ) → wrote a b ≡ list_of s d
-      → (wrote a b ≡ list_of s d) × (check_numbers (check_by a) ≡ check_numbers (first_of (list_rows s (length d))))
+      → (wrote a b ≡ list_of s d) × (check_numbers a ≡ check_numbers (first_of (list_rows s (length d))))
   unfolding list_of
   list-numbers a b e = wrote-numbers (first_of (list_rows s (length d))) (listing_of s) d e
 

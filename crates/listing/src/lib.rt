@@ -2,7 +2,7 @@
 #![tactic(auto)]
 
 ghost use Rattle.std.specs.Prelude.{◌≡◌, ◌+◌, ◌≤◌, ◌<◌, length};
-ghost use Rattle.reasons.specs.Reasons.{first_of, check_by, check_numbers};
+ghost use Rattle.reasons.specs.Reasons.{first_of, check_numbers};
 ghost use Rattle.packing.specs.Packing.{InRange};
 ghost use Rattle.sheet.specs.Sheet.{declared_of, all_words, Ready};
 ghost use Rattle.text.specs.Fill.{Added, Written};
@@ -156,7 +156,7 @@ fn fill(sheet: &[u8], text: &mut [u8]) -> usize
 // The listing of a sheet at the start of a lent buffer; how many bytes it has. `MOST` bytes always suffice.
 pub fn list(sheet: &[u8], text: &mut [u8]) -> Result<usize, Refusal>
     ensures text_after { wrote result text.new ≡ list_of sheet.now text.old }
-    ensures numbers { check_numbers (check_by result) ≡ check_numbers (first_of (list_rows sheet.now (length text.old))) }
+    ensures numbers { check_numbers result ≡ check_numbers (first_of (list_rows sheet.now (length text.old))) }
 {
     sheet::check_sheet(sheet)?;
     refuse_if(text.len() < size(sheet), Reason::Room, 0)?;

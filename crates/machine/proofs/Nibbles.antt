@@ -4,7 +4,7 @@ use mathlib.Core.Bool.{Bool, true, false, ◌&&◌}
 use Prim.Native.Nat.{ℕ, zero, suc, ◌+◌, ◌*◌, ◌/◌, ◌%◌, ◌^◌, ◌≤◌, ◌<◌}
 use native.Mathlib.Nat.{pow-suc}
 use native.Mathlib.Omega.{arith}
-use lib.Bits.{bit_and, bit_or}
+use lib.Bits.{bit_and, bit_or, and_le_r}
 use lib.Dec.{T, eqb, eqb→eq, lit<}
 use borrow.Author.Tests.{eqb-true, eqb-false}
 use Rattle.machine.specs.Status.{gathered, spread_out}
@@ -88,3 +88,8 @@ gather_eight = same (λ x. gather_by (spread_out 8 x)) (λ x. x * 2 ^ 24) tt
 
 pub gather_law : (x : ℕ) → Apart 8 x → gather_by x ≡ gathered 8 x * 2 ^ 24
 gather_law x e = ap gather_by (sym e) ∙ gather_eight (gathered 8 x) (gathered-lt 8 x)
+
+-- with the bound that a mask gives, so that each product fits
+pub ruleset spreading = (spread_law, and_le_r)
+
+pub ruleset gathering = (gather_law, and_le_r)

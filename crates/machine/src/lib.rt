@@ -12,6 +12,8 @@ ghost use Rattle.machine.specs.Pins.{pins_of};
 const CARRY_MODE: u32 = 0;
 
 // The status register as fields, without bits 13, 14, 15 and 23. Each flag is 0 or 1; the bit of nibble i is bit 4 i.
+// Kept: a flag is a number and no bool, here and in what a word carries. Pages work with flags as arithmetic, without branches, for speed, and the
+// fields of a word are the C interface's (include/am29332.h).
 #[derive(Clone, Copy)]
 pub struct Status {
     pub position: u32,
@@ -41,6 +43,8 @@ pub struct Core {
     pub status: Status,
 }
 
+// Kept: that it is in range (`Sound`) stands in the contract of each page and not in this type. The pages are public functions, named in
+// docs/FUNCTIONS.md, and some take what need not be in range; a type would ask more of who calls those.
 // What a word meets: its byte code I8 I7, position and width, macro select, carry and link, borrow; the A and B inputs; Q and
 // the status register.
 #[derive(Clone, Copy)]
@@ -98,10 +102,9 @@ impl Core {
         requires { Good self.status }
         ensures { result ≡ handed_back self }
     {
-        let status = self.status;
         Machine {
             q: self.q,
-            status: status.read(CARRY_MODE),
+            status: self.status.read(CARRY_MODE),
         }
     }
 }
@@ -111,11 +114,13 @@ impl Outputs {
     pub fn shown(self, borrow: u32) -> Shown
         ensures { result ≡ shown_by borrow self }
     {
-        let status = self.status;
         Shown {
             y: self.y,
             borrow,
-            core: Core { q: self.q, status },
+            core: Core {
+                q: self.q,
+                status: self.status,
+            },
         }
     }
 }
@@ -126,9 +131,7 @@ impl Shown {
         requires { Good self.core.status }
         ensures { result ≡ shown_status self }
     {
-        let core = self.core;
-        let status = core.status;
-        status.read(self.borrow)
+        self.core.status.read(self.borrow)
     }
 }
 
@@ -155,6 +158,7 @@ impl Status {
     pub const NIBBLES: u32 = 0x100_0000;
 
     // A word loaded into the register: bits 13, 14, 15 and 23 are ignored.
+    #[tactic(auto, unfolding(crate::specs::Status::loaded))]
     pub fn load(x: u32) -> Status
         ensures { result ≡ loaded x }
     {
@@ -172,9 +176,10 @@ impl Status {
         }
     }
 
-    // The register field by field. Where an operation takes it whole and changes some fields, the compiler would copy two neighbours that it
-    // leaves alone as one number of 64 bits, and then do so in the whole run, and take them apart again for each word (docs/SPEED.md).
-    fn apart(self) -> Status
+    // The register field by field, for an operation to change. Where one takes it whole and changes some fields, the compiler would copy two
+    // neighbours that it leaves alone as one number of 64 bits, and then do so in the whole run, and take them apart again for each word
+    // (docs/SPEED.md).
+    pub fn held(self) -> Status
         ensures { result ≡ self }
     {
         Status {
@@ -212,6 +217,7 @@ impl Status {
     }
 
     // The register as it is read under a borrow switch.
+    #[tactic(auto, unfolding(crate::specs::Status::as_read))]
     pub fn read(self, borrow: u32) -> u32
         requires { Good self }
         ensures { result ≡ as_read borrow self }
@@ -235,33 +241,15 @@ impl Status {
     }
 
     // Those that a status word shows where no word ran.
+    #[tactic(auto, using(crate::proofs::Round::loaded_good))]
     pub fn pins_in(x: u32) -> u32
         ensures { result ≡ pins_of (loaded x) }
     {
-        let status = Self::load(x);
-        status.pins()
-    }
-}
-
-impl Outputs {
-    // The status register, for an operation to change.
-    pub fn held(self) -> Status
-        ensures { result ≡ self.status }
-    {
-        let status = self.status;
-        status.apart()
+        Self::load(x).pins()
     }
 }
 
 impl Inputs {
-    // The status register, for an operation to change.
-    pub fn held(self) -> Status
-        ensures { result ≡ self.status }
-    {
-        let status = self.status;
-        status.apart()
-    }
-
     // The number of selected bits.
     pub fn bits(self) -> u32
         requires { Sound self }
@@ -275,10 +263,7 @@ impl Inputs {
         requires { Sound self }
         ensures { (result ≡ position_of self) × (result < 64) }
     {
-        if self.code < 2 {
-            return self.position;
-        }
-        self.status.position % 64
+        bits::choose(self.code / 2, self.position, self.status.position % 64)
     }
 
     // The width that I7 chooses, 1 to 32.
@@ -286,10 +271,7 @@ impl Inputs {
         requires { Sound self }
         ensures { (result ≡ width_of self) × (1 ≤ result) × (result ≤ 32) }
     {
-        if self.code % 2 == 0 {
-            return full_width(self.width);
-        }
-        full_width(self.status.width)
+        full_width(bits::choose(self.code % 2, self.width, self.status.width))
     }
 
     // The carry that macro select chooses.
@@ -297,10 +279,7 @@ impl Inputs {
         requires { Sound self }
         ensures { (result ≡ carry_in self) × (result < 2) }
     {
-        if self.select == 0 {
-            return self.status.c;
-        }
-        self.carry
+        bits::choose(self.select, self.status.c, self.carry)
     }
 
     // The link that macro select chooses.
@@ -308,10 +287,7 @@ impl Inputs {
         requires { Sound self }
         ensures { (result ≡ link_in self) × (result < 2) }
     {
-        if self.select == 0 {
-            return self.status.l;
-        }
-        self.link
+        bits::choose(self.select, self.status.l, self.link)
     }
 
     // The status register as this word reads it, by its own borrow switch: the only way in which a page reads it.
@@ -328,7 +304,7 @@ impl Inputs {
         ensures { result ≡ result_of self r u }
     {
         let n = self.bits();
-        let mut s = self.held();
+        let mut s = self.status.held();
         s.z = bits::is_zero(r, n);
         s.n = bits::sign(r, n);
         Outputs {
@@ -343,10 +319,7 @@ impl Inputs {
 fn turn(borrow: u32) -> u32
     ensures { result ≡ choose borrow 0x2000 0 }
 {
-    if borrow == CARRY_MODE {
-        return Status::UNSIGNED_LE;
-    }
-    0
+    bits::choose(borrow, Status::UNSIGNED_LE, 0)
 }
 
 // Width 0 stands for 32 (table 2): 32 less what w lacks of it, so that no test is needed for width 0.
@@ -358,6 +331,7 @@ fn full_width(w: u32) -> u32
 }
 
 // The nibble bits read: two at a time into each byte, and the four bytes together at the top by one product.
+#[tactic(auto, using(crate::proofs::Nibbles::gathering))]
 fn gather(x: u32) -> u32
     requires { spread_out 8 (gathered 8 x) ≡ x }
     ensures { (result ≡ gathered 8 x * 2 ^ 24) × (result ≤ 0xff00_0000) }
@@ -367,6 +341,7 @@ fn gather(x: u32) -> u32
 }
 
 // The nibble bits loaded: the upper half of the bits goes up, then the upper half of each half, then that of each pair.
+#[tactic(auto, using(crate::proofs::Nibbles::spreading))]
 fn spread(x: u32) -> u32
     requires { x < 256 }
     ensures { result ≡ spread_out 8 x }

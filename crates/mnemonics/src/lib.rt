@@ -8,7 +8,7 @@ ghost use Rattle.mnemonics.specs.Mnemonics.{mnemonic_of, in_column, columns};
 pub const COLUMN: usize = 12;
 
 // The mnemonics in the glossary's order, each in its column; blank where there is no page.
-const MNEMONICS: [[u8; COLUMN]; 128] = [
+static MNEMONICS: [[u8; COLUMN]; 128] = [
     // 00
     *b"ZERO-EXTA   ",
     *b"ZERO-EXTB   ",
@@ -147,11 +147,11 @@ const MNEMONICS: [[u8; COLUMN]; 128] = [
     *b"PASS-MASK   ",
 ];
 
-// All of them. A constant is built anew at each use, so who looks through the table takes it once.
-pub fn table() -> [[u8; COLUMN]; 128]
-    ensures { result ≡ columns }
+// All of them, where they stand: nothing is copied.
+pub fn table() -> &'static [[u8; COLUMN]; 128]
+    ensures { result.now ≡ columns }
 {
-    MNEMONICS
+    &MNEMONICS
 }
 
 // The mnemonic of an opcode number, in its column.
@@ -159,6 +159,5 @@ pub fn column(opcode: usize) -> [u8; COLUMN]
     requires { opcode < 128 }
     ensures { result ≡ in_column (mnemonic_of opcode) }
 {
-    let all = table();
-    all[opcode]
+    table()[opcode]
 }

@@ -4,7 +4,7 @@
 
 ghost use Rattle.std.specs.Prelude.{◌≡◌};
 ghost use Rattle.bits.specs.Bits.{not_of, merged};
-ghost use Rattle.machine.specs.Inputs.{Sound, bits_of, read_by, result_of};
+ghost use Rattle.machine.specs.Inputs.{Sound, bits_of, read_by, leaving, result_of};
 ghost use Rattle.movement.specs.DataMovement.{zero_extend, sign_extend, PASS-STAT, PASS-Q, load_q, load_status};
 ghost use Rattle.movement.specs.Logical.{ZERO, SIGN, OR, XOR, AND, XNOR};
 ghost use Rattle.movement.specs.Prioritize.{prioritize};
@@ -12,6 +12,7 @@ ghost use Rattle.movement.specs.Prioritize.{prioritize};
 use machine::{Inputs, Outputs, Status};
 
 // ZERO-EXTA, ZERO-EXTB
+#[tactic(auto, unfolding(crate::specs::DataMovement::zero_extend))]
 pub fn zero_extend(x: Inputs, s: u32) -> Outputs
     requires { Sound x }
     ensures { result ≡ zero_extend x s }
@@ -20,55 +21,56 @@ pub fn zero_extend(x: Inputs, s: u32) -> Outputs
 }
 
 // SIGN-EXTA, SIGN-EXTB: Z and N are of the whole Y bus.
+#[tactic(auto, unfolding(crate::specs::DataMovement::sign_extend))]
 pub fn sign_extend(x: Inputs, s: u32) -> Outputs
     requires { Sound x }
     ensures { result ≡ sign_extend x s }
 {
     let n = x.bits();
     let y = bits::merge(s, bits::spread(bits::sign(s, n)), n);
-    let mut status = x.held();
+    let mut status = x.status.held();
     status.z = bits::is_zero(y, 32);
     status.n = bits::sign(y, 32);
     Outputs { y, q: x.q, status }
+}
+
+// s over B; no flag changes.
+fn pass(x: Inputs, s: u32) -> Outputs
+    requires { Sound x }
+    ensures { result ≡ leaving x (merged (bits_of x) s x.b) x.status }
+{
+    Outputs {
+        y: bits::merge(s, x.b, x.bits()),
+        q: x.q,
+        status: x.status,
+    }
 }
 
 pub fn pass_status(x: Inputs) -> Outputs
     requires { Sound x }
     ensures { result ≡ PASS-STAT x }
 {
-    let n = x.bits();
-    let status = x.status;
-    Outputs {
-        y: bits::merge(x.read(status), x.b, n),
-        q: x.q,
-        status,
-    }
+    pass(x, x.read(x.status))
 }
 
 pub fn pass_q(x: Inputs) -> Outputs
     requires { Sound x }
     ensures { result ≡ PASS-Q x }
 {
-    let n = x.bits();
-    let status = x.status;
-    Outputs {
-        y: bits::merge(x.q, x.b, n),
-        q: x.q,
-        status,
-    }
+    pass(x, x.q)
 }
 
 // LOADQ-A, LOADQ-B
+#[tactic(auto, unfolding(crate::specs::DataMovement::load_q))]
 pub fn load_q(x: Inputs, s: u32) -> Outputs
     requires { Sound x }
     ensures { result ≡ load_q x s }
 {
     let o = x.result(s, x.q);
-    let status = o.status;
     Outputs {
         y: o.y,
         q: o.y,
-        status,
+        status: o.status,
     }
 }
 
@@ -89,12 +91,11 @@ fn over_status(x: Inputs, s: u32) -> u32
     if x.code == 0 {
         return s;
     }
-    let n = x.bits();
-    let old = x.status;
-    bits::merge(s, x.read(old), n)
+    bits::merge(s, x.read(x.status), x.bits())
 }
 
 // LDSTAT-A, LDSTAT-B: Y shows the operand's bytes as they are, the register takes them without bits 13, 14, 15 and 23.
+#[tactic(auto, unfolding(crate::specs::DataMovement::load_status))]
 pub fn load_status(x: Inputs, s: u32) -> Outputs
     requires { Sound x }
     ensures { result ≡ load_status x s }
@@ -123,12 +124,13 @@ pub fn zero(x: Inputs) -> Outputs
 }
 
 // SIGN: the N flag, not the sign of B, whatever the page's title says.
+#[tactic(auto, unfolding(crate::specs::Logical::SIGN))]
 pub fn sign(x: Inputs) -> Outputs
     requires { Sound x }
     ensures { result ≡ SIGN x }
 {
     let n = x.bits();
-    let mut status = x.held();
+    let mut status = x.status.held();
     status.z = 1 - x.status.n;
     Outputs {
         y: bits::merge(bits::spread(x.status.n), x.b, n),
@@ -166,13 +168,14 @@ pub fn xnor(x: Inputs) -> Outputs
 }
 
 // PRIOR-A, PRIOR-B
+#[tactic(auto, unfolding(crate::specs::Prioritize::prioritize))]
 pub fn prioritize(x: Inputs, s: u32) -> Outputs
     requires { Sound x }
     ensures { result ≡ prioritize x s }
 {
     let n = x.bits();
     let code = bits::priority(s, n);
-    let mut status = x.held();
+    let mut status = x.status.held();
     status.position = code;
     status.z = bits::is_zero(s, n);
     Outputs {

@@ -5,7 +5,7 @@ use native.Mathlib.Nat.{mod-lt, mod-mod, mod-eq_of_lt, add_comm, mul_assoc, add-
 use native.Mathlib.Omega.{arith}
 use lib.Pow.{pow_pos, pow_mono, pow-add, shl_exact, shl-shr, shr-shr, field, mod-mod-pow}
 use Rattle.bits.specs.Bits.{sign_of, merged}
-use Rattle.bits.proofs.Laws.{shl_law}
+use Rattle.bits.proofs.Laws.{shl_law, merged_wrap}
 use Rattle.bits.proofs.BitByBit.{by_flag, bit-lt}
 use Rattle.multiply.specs.Multiply.{sign_extended}
 
@@ -70,3 +70,7 @@ fill-cut n f = mod-mod-pow f n 2
 pub merged-cut : (n x u : ℕ) → merged n (x % 2 ^ n) u ≡ merged n x u
 unfolding merged
 merged-cut n x u = ap (λ (r : ℕ). u / 2 ^ n * 2 ^ n + r) (mod-mod x (2 ^ n))
+
+pub ruleset extending = (word-le, cut-lt, extra, mod-eq_of_lt)
+
+pub ruleset shifting = (merged_wrap, down-cut, fill-cut, merged-cut, mod-eq_of_lt)

@@ -2,11 +2,13 @@
 -- extended width.
 use mathlib.Core.Path.{◌≡◌, refl, sym, ap, ap₂, ◌∙◌}
 use Prim.Native.Nat.{ℕ, zero, suc, ◌+◌, ◌-◌, ◌*◌, ◌/◌, ◌%◌, ◌^◌, ◌≤◌, ◌<◌}
-use native.Mathlib.Nat.{mod-lt, mod-add-mod, add-mul, mul_assoc, mul-le-mul_right}
+use native.Mathlib.Nat.{mod-lt, zero-mod, mod-add-mod, add-mul, mul_assoc, mul-le-mul_right}
 use native.Mathlib.Omega.{arith}
 use lib.Pow.{pow_pos, split, field, mod-mod-pow}
 use Rattle.bits.specs.Bits.{choose, bit_of}
 use Rattle.bits.proofs.BitByBit.{by_flag}
+use Rattle.bits.proofs.Laws.{merged_wrap, zero_wrap}
+use Rattle.bits.proofs.Bounds.{selected_bounds}
 use Rattle.multiply.specs.Multiply.{minus, first_row, step_row, first_partial, partial}
 use Rattle.multiply.proofs.Bounds.{extra, extra_one, room, same-mod}
 
@@ -109,3 +111,10 @@ once m a h = omega (arith, mul-le-mul_right a (low m h))
 
 pub once_more : (m a b : ℕ) → m < 2 → b + m * a + 0 ≡ choose m b (b + a)
 once_more m a b h = by_flag (λ (m : ℕ). b + m * a + 0 ≡ choose m b (b + a)) (omega arith) (omega arith) m h
+
+-- ---- what the code of each step asks for
+pub ruleset picking = (picked, added-le, taken-le)
+
+pub ruleset first = (first_is, zero-mod)
+
+pub ruleset last = (once, once_more, merged_wrap, zero_wrap, selected_bounds)

@@ -11,6 +11,7 @@ use Rattle.chip.specs.declared.Word.{Word}
 use Rattle.reasons.specs.declared.Refusal.{Refusal}
 use Rattle.reasons.specs.declared.Reason.TheVariants.{Opcode, Inputs, Spare, Room, Idle}
 use Rattle.reasons.specs.Reasons.{Check, good, refused, first_of, check_by, check_numbers}
+use Rattle.reasons.proofs.Wrote.{numbers_by}
 use Rattle.chip.specs.Single.{lacks_page}
 use Rattle.packing.specs.Packing.{number6, fields_of, spare_of, too_large, left_idle, pack_rows, packed_into, Packed, ended, packed_by, pack_of, unpack_rows, unpacked_by, unpack_of}
 
@@ -86,8 +87,8 @@ module _ (s : List ℕ) where
       go (Err refusal) = refl
 
   -- and so are its numbers
-  pub unpack-numbers : (r : Result Word Refusal) → r ≡ unpack_of s → (r ≡ unpack_of s) × (check_numbers (check_by r) ≡ check_numbers (first_of (unpack_rows s)))
-  unpack-numbers r e = (e, ap check_numbers (ap check_by e ∙ unpack-check))
+  pub unpack-numbers : (r : Result Word Refusal) → r ≡ unpack_of s → (r ≡ unpack_of s) × (check_numbers r ≡ check_numbers (first_of (unpack_rows s)))
+  unpack-numbers r e = (e, numbers_by r ∙ ap check_numbers (ap check_by e ∙ unpack-check))
 
   -- no second answer meets the promise of `unpack`
   pub unpack-only : (r r' : Result Word Refusal) → r ≡ unpack_of s → r' ≡ unpack_of s → r ≡ r'

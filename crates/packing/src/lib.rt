@@ -3,7 +3,7 @@
 
 ghost use Rattle.std.specs.Prelude.{◌≡◌, ◌∷◌, ◌++◌, ◌+◌, ◌*◌, ◌%◌, ◌^◌, ◌<◌, ◌≤◌, length, drop, leb};
 ghost use Rattle.bits.specs.Bits.{choose};
-ghost use Rattle.reasons.specs.Reasons.{first_of, check_by, check_numbers};
+ghost use Rattle.reasons.specs.Reasons.{first_of, check_numbers};
 ghost use Rattle.packing.specs.Packing.{number6, fields_of, packed_number, bytes6, some, register_fields, too_large, left_idle, InRange, pack_rows, ended, pack_of, unpack_rows, unpack_of, word_or_blank};
 ghost use Rattle.packing.specs.Registers.{only, sources_of, destination_of, names_of, Narrow};
 
@@ -102,14 +102,8 @@ fn packed_number(w: Word) -> u64
 fn six(v: u64) -> [u8; 6]
     ensures { result ≡ bytes6 v }
 {
-    [
-        ((v >> 40) % 256) as u8,
-        ((v >> 32) % 256) as u8,
-        ((v >> 24) % 256) as u8,
-        ((v >> 16) % 256) as u8,
-        ((v >> 8) % 256) as u8,
-        (v % 256) as u8,
-    ]
+    let all = v.to_be_bytes();
+    [all[2], all[3], all[4], all[5], all[6], all[7]]
 }
 
 // The six bytes of a word. Public for the reader of listings, which has seen to the fields.
@@ -180,7 +174,7 @@ pub fn pack(w: Word, d: &mut [u8]) -> Result<(), Refusal>
 // Unpacking: the word in the first six bytes of `s`.
 pub fn unpack(s: &[u8]) -> Result<Word, Refusal>
     ensures value { result ≡ unpack_of s.now }
-    ensures numbers { check_numbers (check_by result) ≡ check_numbers (first_of (unpack_rows s.now)) }
+    ensures numbers { check_numbers result ≡ check_numbers (first_of (unpack_rows s.now)) }
 {
     refuse_if(s.len() < 6, Reason::Room, 0)?;
     let number = word_number(s);

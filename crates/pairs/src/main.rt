@@ -27,15 +27,9 @@
 // pairs, and how many is what is asked of them. The stored output is the independent program's (oracle/README.md).
 #![tactic(auto)]
 
-ghost use Rattle.std.specs.Prelude.{◌+◌, ◌<◌, ◌≤◌};
-
 use lines::print_word;
 use machine::Machine;
-
-// Pairs of a byte and a byte, and of two bytes and a byte.
-const PAIRS: u32 = 0x1_0000;
-
-const LONG_PAIRS: u32 = 0x100_0000;
+use run::RunAnswer;
 
 // More words than any of the sheets has.
 const ALLOWANCE: usize = 0x1000;
@@ -43,215 +37,205 @@ const ALLOWANCE: usize = 0x1000;
 // Where SDIVFIRST stands in the division.
 const SDIVFIRST: usize = 2;
 
-// What a sheet is run for: a product; a quotient and remainder; those of a dividend of two bytes.
+// ---- arithmetic
+
+// Multiplier and multiplicand, or dividend and divisor.
 #[derive(Clone, Copy)]
-pub enum List {
-    Multiply,
-    Divide,
-    DivideLong,
+pub struct Pair {
+    pub x: i16,
+    pub y: i8,
 }
 
-// Multiplier and multiplicand, or dividend and divisor, as numbers of two bytes, and the status before the list.
-#[derive(Clone, Copy)]
-pub struct Case {
-    pub x: u32,
-    pub y: u32,
-    pub status: u32,
-}
-
-// What a list left: whether it ran, the registers, Q and status.
-#[derive(Clone, Copy)]
-pub struct Left {
-    pub ran: bool,
-    pub file: [u32; 6],
-    pub machine: Machine,
-}
-
-// How many pairs came out as arithmetic says, how many did not, how many of these have a dividend below 0, remainder 0 and an odd quotient, and a
-// sum over all that was left.
-#[derive(Clone, Copy)]
-pub struct Tally {
-    pub right: u32,
-    pub wrong: u32,
-    pub odd: u32,
-    pub sum: u64,
-}
-
-// ---- arithmetic, by sign and size
-
-// A one-byte number as one of two bytes.
-fn extended(byte: u32) -> u32 {
-    if byte % 256 < 128 {
-        return byte % 256;
+impl Pair {
+    // The pair of bytes in which a number ends.
+    fn of_bytes(n: u32) -> Pair {
+        let [_, _, x, y] = n.to_be_bytes();
+        Pair {
+            x: i16::from(x.cast_signed()),
+            y: y.cast_signed(),
+        }
     }
-    0xff00 + byte % 256
-}
 
-// The sign of a number of two bytes.
-fn sign(x: u32) -> u32 {
-    x / 0x8000 % 2
-}
-
-// Its size.
-fn size(x: u32) -> u32
-    ensures { result ≤ 32768 }
-{
-    if x % 0x1_0000 < 0x8000 {
-        return x % 0x1_0000;
+    // The pair of two bytes and a byte.
+    fn long(n: u32) -> Pair {
+        let [_, high, low, y] = n.to_be_bytes();
+        Pair {
+            x: i16::from_be_bytes([high, low]),
+            y: y.cast_signed(),
+        }
     }
-    0x1_0000 - x % 0x1_0000
-}
 
-// The two's complement of a sign and a size.
-fn signed(sign: u32, size: u32) -> u32 {
-    if sign == 0 {
-        return size;
+    // The low byte of multiplier or dividend.
+    fn low(self) -> u8 {
+        let [_, low] = self.x.to_be_bytes();
+        low
     }
-    std::num::wrapping_sub_u32(0, size)
-}
 
-// The product, two bytes.
-fn product(case: Case) -> u32 {
-    signed(sign(case.x) ^ sign(case.y), size(case.x) * size(case.y)) % 0x1_0000
-}
-
-// The size of the quotient cut towards zero; of a divisor 0, a size that fits no byte.
-fn quotient_size(case: Case) -> u32 {
-    let by = size(case.y);
-    if by == 0 {
-        return 0x8000;
+    // The product, high byte first.
+    fn product(self) -> [u8; 2] {
+        self.x.wrapping_mul(i16::from(self.y)).to_be_bytes()
     }
-    size(case.x) / by
-}
 
-// The quotient, one byte.
-fn quotient(case: Case) -> u32 {
-    signed(sign(case.x) ^ sign(case.y), quotient_size(case)) % 0x100
-}
-
-// The remainder, one byte, of the dividend's sign; 0 where the divisor is 0.
-fn remainder(case: Case) -> u32 {
-    let by = size(case.y);
-    if by == 0 {
-        return 0;
+    // The quotient cut towards zero, and the remainder, of the dividend's sign, where the quotient fits one byte. The remainder always does.
+    fn divided(self) -> Option<(i8, i8)> {
+        let y = i16::from(self.y);
+        let quotient = i8::try_from(self.x.checked_div(y)?).ok()?;
+        let remainder = i8::try_from(self.x.checked_rem(y)?).ok()?;
+        Some((quotient, remainder))
     }
-    signed(sign(case.x), size(case.x) % by) % 0x100
-}
-
-// Whether something is promised of a pair: of every product; of a division, where the quotient fits one byte.
-fn promised(list: List, case: Case) -> bool {
-    if let List::Multiply = list {
-        return true;
-    }
-    quotient_size(case) < 128 + (sign(case.x) ^ sign(case.y)) % 2
-}
-
-// Whether a pair has a dividend below 0, remainder 0 and an odd quotient.
-fn exact_and_odd(case: Case) -> bool {
-    if sign(case.x) == 0 {
-        return false;
-    }
-    if remainder(case) != 0 {
-        return false;
-    }
-    quotient(case) % 2 == 1
 }
 
 // ---- a list run
 
 // A low byte put below other bytes.
-fn with_low(x: u32, byte: u32) -> u32 {
-    x / 256 * 256 + byte % 256
+fn with_low(x: u32, low: u8) -> u32 {
+    x / 256 * 256 + u32::from(low)
 }
 
-// The registers before a list. Register 5 no sheet names; in the others the upper three bytes have to stay.
-fn registers(list: List, case: Case) -> [u32; 6] {
-    let first = match list {
-        List::DivideLong => case.x / 256,
-        _ => 0x81,
-    };
-    [
-        with_low(0x8a91b3c5, case.y),
-        with_low(0x5e6f7081, first),
-        0x9badc0de,
-        0xf0e1d200,
-        with_low(0x7f3b2a19, case.x),
-        0xc35a3ca5,
-    ]
+// What a list starts from: its first word, the registers, Q and status.
+#[derive(Clone, Copy)]
+pub struct Start {
+    pub word: usize,
+    pub file: [u32; 6],
+    pub machine: Machine,
 }
 
-// Q and status before a list. The low byte of Q is the multiplier, or the low half of a dividend of two bytes; LOADQ-A replaces it before others.
-fn start(list: List, case: Case) -> Machine {
-    let low = match list {
-        List::Divide => !case.x,
-        _ => case.x,
-    };
-    Machine {
-        q: with_low(0xa7b6c5d4, low),
-        status: case.status,
+// What it left: what its run answers, and the registers.
+#[derive(Clone, Copy)]
+pub struct Left {
+    pub answer: RunAnswer,
+    pub file: [u32; 6],
+}
+
+impl Start {
+    // Of a pair, with r and q for the low bytes of register 1 and Q. Register 5 no sheet names; in the others the upper three bytes have to stay.
+    fn new(word: usize, pair: Pair, r: u8, q: u8, status: u32) -> Start {
+        Start {
+            word,
+            file: [
+                with_low(0x8a91b3c5, pair.y.cast_unsigned()),
+                with_low(0x5e6f7081, r),
+                0x9badc0de,
+                0xf0e1d200,
+                with_low(0x7f3b2a19, pair.low()),
+                0xc35a3ca5,
+            ],
+            machine: Machine {
+                q: with_low(0xa7b6c5d4, q),
+                status,
+            },
+        }
+    }
+
+    fn run(self, sheet: &[u8]) -> Left {
+        let mut file = self.file;
+        let answer = run::run(sheet, &mut file, self.machine, self.word, ALLOWANCE);
+        Left { answer, file }
     }
 }
 
-// The word that a list starts at.
-fn first_word(list: List) -> usize {
-    match list {
-        List::DivideLong => SDIVFIRST,
-        _ => 0,
+// ---- the lists
+
+// A list to be tried on a pair: its start; what arithmetic says that it leaves in the registers, and in Q where Q is a result; and whether the pair
+// has a dividend below 0, remainder 0 and an odd quotient.
+#[derive(Clone, Copy)]
+pub struct Trial {
+    pub start: Start,
+    pub file: [u32; 6],
+    pub q: Option<u32>,
+    pub odd: bool,
+}
+
+impl Trial {
+    // Whether the list ran, and left what arithmetic says and all other registers as they were.
+    fn right(self, left: Left) -> bool {
+        let answer = left.answer;
+        answer.outcome.is_ok()
+            && left.file == self.file
+            && self.q.is_none_or(|q| answer.machine.q == q)
     }
 }
 
-fn outcome(sheet: &[u8], list: List, case: Case) -> Left {
-    let mut file = registers(list, case);
-    let answer = run::run(
-        sheet,
-        &mut file,
-        start(list, case),
-        first_word(list),
-        ALLOWANCE,
-    );
-    let reason = answer.reason;
-    let machine = answer.machine;
-    Left {
-        ran: reasons::number(reason) == 0,
+// What differs between the lists.
+pub trait List {
+    // How many pairs it is tried on.
+    const PAIRS: u32;
+
+    // The trial on the pair of a number, if something is promised of it.
+    fn trial(n: u32, status: u32) -> Option<Trial>;
+}
+
+pub struct Multiply;
+
+pub struct Divide;
+
+// The division of a dividend of two bytes.
+pub struct DivideLong;
+
+// Q's low byte is the multiplier. The product's halves come into register 1 and Q.
+impl List for Multiply {
+    const PAIRS: u32 = 0x1_0000;
+
+    fn trial(n: u32, status: u32) -> Option<Trial> {
+        let pair = Pair::of_bytes(n);
+        let start = Start::new(0, pair, 0x81, pair.low(), status);
+        let [high, low] = pair.product();
+        let mut file = start.file;
+        file[1] = with_low(file[1], high);
+        let q = Some(with_low(start.machine.q, low));
+        Some(Trial {
+            start,
+            file,
+            q,
+            odd: false,
+        })
+    }
+}
+
+// Q's low byte is another than the dividend's: LOADQ-A replaces it.
+fn divide_start(pair: Pair, status: u32) -> Start {
+    Start::new(0, pair, 0x81, !pair.low(), status)
+}
+
+// Quotient and remainder come into registers 2 and 1. Something is promised where the quotient fits one byte.
+fn divide_trial(pair: Pair, start: Start) -> Option<Trial> {
+    let (quotient, remainder) = pair.divided()?;
+    let mut file = start.file;
+    file[1] = with_low(file[1], remainder.cast_unsigned());
+    file[2] = with_low(file[2], quotient.cast_unsigned());
+    let odd = pair.x < 0 && remainder == 0 && quotient % 2 != 0;
+    Some(Trial {
+        start,
         file,
-        machine,
+        q: None,
+        odd,
+    })
+}
+
+impl List for Divide {
+    const PAIRS: u32 = 0x1_0000;
+
+    fn trial(n: u32, status: u32) -> Option<Trial> {
+        let pair = Pair::of_bytes(n);
+        divide_trial(pair, divide_start(pair, status))
     }
 }
 
-// Whether the product's halves are in register 1 and Q, and all else is as it was.
-fn multiplied(case: Case, left: Left) -> bool {
-    let value = product(case);
-    let before = start(List::Multiply, case);
-    let mut file = registers(List::Multiply, case);
-    file[1] = with_low(file[1], value / 256);
-    let machine = left.machine;
-    if machine.q != with_low(before.q, value) {
-        return false;
-    }
-    lines::same(&left.file, &file)
-}
+// The dividend is in register 1 and Q.
+impl List for DivideLong {
+    const PAIRS: u32 = 0x100_0000;
 
-// Whether quotient and remainder are in registers 2 and 1, and all other registers are as they were.
-fn divided(list: List, case: Case, left: Left) -> bool {
-    let mut file = registers(list, case);
-    file[1] = with_low(file[1], remainder(case));
-    file[2] = with_low(file[2], quotient(case));
-    lines::same(&left.file, &file)
-}
-
-fn as_arithmetic_says(list: List, case: Case, left: Left) -> bool {
-    if !left.ran {
-        return false;
-    }
-    match list {
-        List::Multiply => multiplied(case, left),
-        _ => divided(list, case, left),
+    fn trial(n: u32, status: u32) -> Option<Trial> {
+        let pair = Pair::long(n);
+        let [high, low] = pair.x.to_be_bytes();
+        divide_trial(pair, Start::new(SDIVFIRST, pair, high, low, status))
     }
 }
 
 // ---- all pairs
 
 // One step of the generator of the independent program's draw, by which a sum is stirred.
+// Kept: digest::draw has the same step; no crate below both programs is about draws or sums.
 fn next(x: u64) -> u64 {
     let a = x ^ (x << 13);
     let b = a ^ (a >> 7);
@@ -264,101 +248,47 @@ fn stirred(sum: u64, value: u32) -> u64 {
 
 // The sum after what a list left: registers 0 to 5, Q, status.
 fn summed(sum: u64, left: Left) -> u64 {
-    let file = left.file;
-    let machine = left.machine;
-    let after_2 = stirred(stirred(stirred(sum, file[0]), file[1]), file[2]);
-    let after_5 = stirred(stirred(stirred(after_2, file[3]), file[4]), file[5]);
-    stirred(stirred(after_5, machine.q), machine.status)
+    let machine = left.answer.machine;
+    let after_file = left.file.iter().fold(sum, |sum, x| stirred(sum, *x));
+    stirred(stirred(after_file, machine.q), machine.status)
 }
 
-// The tally after one pair more.
-fn counted(tally: Tally, right: bool, odd: bool) -> Tally
-    requires { (tally.right < 16777216) × (tally.wrong < 16777216) × (tally.odd < 16777216) }
-    ensures { (result.right ≤ tally.right + 1) × (result.wrong ≤ tally.wrong + 1) × (result.odd ≤ tally.odd + 1) }
-{
-    let mut after = tally;
-    if right {
-        after.right = tally.right + 1;
-        return after;
-    }
-    after.wrong = tally.wrong + 1;
-    if odd {
-        after.odd = tally.odd + 1;
-        return after;
-    }
-    after
-}
-
-// The tally after a pair, if something is promised of it.
-fn tried(sheet: &[u8], list: List, case: Case, tally: Tally) -> Tally
-    requires { (tally.right < 16777216) × (tally.wrong < 16777216) × (tally.odd < 16777216) }
-    ensures { (result.right ≤ tally.right + 1) × (result.wrong ≤ tally.wrong + 1) × (result.odd ≤ tally.odd + 1) }
-{
-    if !promised(list, case) {
-        return tally;
-    }
-    let left = outcome(sheet, list, case);
-    let mut after = tally;
-    after.sum = summed(tally.sum, left);
-    let odd = match list {
-        List::Multiply => false,
-        _ => exact_and_odd(case),
-    };
-    counted(after, as_arithmetic_says(list, case, left), odd)
-}
-
-// How many pairs a list is tried on.
-fn pairs_of(list: List) -> u32
-    ensures { result ≤ 16777216 }
-{
-    match list {
-        List::DivideLong => LONG_PAIRS,
-        _ => PAIRS,
-    }
-}
-
-// The pair of a number: the second operand is its low byte.
-fn case_of(list: List, pair: u32, status: u32) -> Case {
-    let x = match list {
-        List::DivideLong => pair / 256,
-        _ => extended(pair / 256),
-    };
-    Case {
-        x,
-        y: extended(pair),
-        status,
-    }
+// How many pairs came out as arithmetic says, how many did not, how many of these have a dividend below 0, remainder 0 and an odd quotient, and a
+// sum over all that was left.
+#[derive(Clone, Copy, Default)]
+pub struct Tally {
+    pub right: usize,
+    pub wrong: usize,
+    pub odd: usize,
+    pub sum: u64,
 }
 
 // The tally of all pairs from one status.
-fn tallied(sheet: &[u8], list: List, status: u32) -> Tally {
+fn tallied<L: List>(sheet: &[u8], status: u32) -> Tally {
     let mut tally = Tally {
-        right: 0,
-        wrong: 0,
-        odd: 0,
         sum: 1,
+        ..Tally::default()
     };
-    let pairs = pairs_of(list);
-    let mut pair: u32 = 0;
-    while pair < pairs {
-        tally = tried(sheet, list, case_of(list, pair, status), tally);
-        pair += 1;
+    for n in 0..L::PAIRS {
+        if let Some(trial) = L::trial(n, status) {
+            let left = trial.start.run(sheet);
+            tally.sum = summed(tally.sum, left);
+            if trial.right(left) {
+                tally.right += 1;
+            } else {
+                tally.wrong += 1;
+                tally.odd += usize::from(trial.odd);
+            }
+        }
     }
     tally
 }
 
 // ---- in print
 
-fn print_number(n: u32, after: &[u8]) {
+fn print_number(n: usize, after: &[u8]) {
     io::print_decimal(1, n as u64);
     io::write_all(1, after);
-}
-
-// The last two digits of a word.
-fn print_byte(before: &[u8], x: u32) {
-    let digits = text::hex2(x);
-    io::write_all(1, before);
-    io::write_all(1, &digits);
 }
 
 // A list's name and the status before it.
@@ -366,14 +296,6 @@ fn print_head(name: &[u8], status: u32) {
     io::write_all(1, name);
     io::write_all(1, b", status ");
     print_word(status, b':');
-}
-
-// A sum's sixteen digits.
-fn print_sum(sum: u64) {
-    let upper = text::hex8((sum / 0x1_0000_0000) as u32);
-    let lower = text::hex8((sum % 0x1_0000_0000) as u32);
-    io::write_all(1, &upper);
-    io::write_all(1, &lower);
 }
 
 fn print_tally(tally: Tally) {
@@ -388,88 +310,61 @@ fn print_tally(tally: Tally) {
         );
     }
     io::write_all(1, b"; sum ");
-    print_sum(tally.sum);
+    io::write_all(1, &text::hex::<16>(tally.sum));
     io::write_all(1, b"\n");
 }
 
 // A list tried on all pairs from one status.
-fn sweep(name: &[u8], sheet: &[u8], list: List, status: u32) {
+fn sweep<L: List>(name: &[u8], sheet: &[u8], status: u32) {
     print_head(name, status);
-    print_tally(tallied(sheet, list, status));
+    print_tally(tallied::<L>(sheet, status));
 }
 
 // From two statuses.
-fn sweep_both(name: &[u8], sheet: &[u8], list: List) {
-    sweep(name, sheet, list, 0);
-    sweep(name, sheet, list, 0xffffffff);
+fn sweep_both<L: List>(name: &[u8], sheet: &[u8]) {
+    sweep::<L>(name, sheet, 0);
+    sweep::<L>(name, sheet, 0xffffffff);
 }
 
 // ---- what is told and not promised
 
-// Of divisor 0: how often the dividend ended in register 1, and how often register 2 was FF and 01.
-#[derive(Clone, Copy)]
-pub struct Zero {
-    pub dividend: u32,
-    pub ff: u32,
-    pub one: u32,
+// The low bytes of registers 2 and 1 after a division.
+fn after_division(sheet: &[u8], pair: Pair, status: u32) -> [u8; 2] {
+    let left = divide_start(pair, status).run(sheet);
+    let [_, _, _, k] = left.file[2].to_be_bytes();
+    let [_, _, _, r] = left.file[1].to_be_bytes();
+    [k, r]
 }
 
-// The number after one case more, if it is one.
-fn more(n: u32, counts: bool) -> u32
-    requires { n < 256 }
-    ensures { result ≤ n + 1 }
+// How many dividends of one byte, with these bytes after their division by 0, are counted.
+fn over_zero<C: Fn(i8, [u8; 2]) -> bool>(sheet: &[u8], status: u32, counts: C) -> usize
+    requires { C.IsAlwaysCallable counts }
 {
-    if counts {
-        return n + 1;
-    }
-    n
+    (i8::MIN..=i8::MAX)
+        .filter(|x| {
+            let pair = Pair {
+                x: i16::from(*x),
+                y: 0,
+            };
+            counts(*x, after_division(sheet, pair, status))
+        })
+        .count()
 }
 
-fn over_zero(sheet: &[u8], status: u32, x: u32, zero: Zero) -> Zero
-    requires { (zero.dividend < 256) × (zero.ff < 256) × (zero.one < 256) }
-    ensures { (result.dividend ≤ zero.dividend + 1) × (result.ff ≤ zero.ff + 1) × (result.one ≤ zero.one + 1) }
-{
-    let case = Case {
-        x: extended(x),
-        y: 0,
-        status,
-    };
-    let left = outcome(sheet, List::Divide, case);
-    let file = left.file;
-    Zero {
-        dividend: more(zero.dividend, file[1] % 256 == x),
-        ff: more(zero.ff, file[2] % 256 == 0xff),
-        one: more(zero.one, file[2] % 256 == 1),
-    }
-}
-
-fn all_over_zero(sheet: &[u8], status: u32) -> Zero {
-    let mut zero = Zero {
-        dividend: 0,
-        ff: 0,
-        one: 0,
-    };
-    let mut x: u32 = 0;
-    while x < 256 {
-        zero = over_zero(sheet, status, x, zero);
-        x += 1;
-    }
-    zero
-}
-
-// Divisor 0, and 80 over FF.
+// Of divisor 0: how often the dividend ended in register 1, R, and how often register 2, K, was FF and 01. And 80 over FF.
 fn not_promised(sheet: &[u8], status: u32) {
+    let dividends = over_zero(sheet, status, |x, [_, r]| r == x.cast_unsigned());
+    let ff = over_zero(sheet, status, |_, [k, _]| k == 0xff);
+    let one = over_zero(sheet, status, |_, [k, _]| k == 1);
+    let [k, r] = after_division(sheet, Pair { x: -128, y: -1 }, status);
     print_head(b"divide", status);
-    let zero = all_over_zero(sheet, status);
     io::write_all(1, b" divisor 00 leaves ");
-    print_number(zero.dividend, b" of 256 dividends in R, K FF ");
-    print_number(zero.ff, b" times, K 01 ");
-    print_number(zero.one, b" times; 80 over FF leaves");
-    let case = case_of(List::Divide, 0x80ff, status);
-    let left = outcome(sheet, List::Divide, case);
-    let file = left.file;
-    print_byte(b" K ", file[2]);
-    print_byte(b", R ", file[1]);
+    print_number(dividends, b" of 256 dividends in R, K FF ");
+    print_number(ff, b" times, K 01 ");
+    print_number(one, b" times; 80 over FF leaves K ");
+    io::write_all(1, &text::hex::<2>(k as u64));
+    io::write_all(1, b", R ");
+    io::write_all(1, &text::hex::<2>(r as u64));
     io::write_all(1, b"\n");
 }
 
@@ -482,16 +377,11 @@ fn main() {
     io::read_full(0, &mut divide);
     io::read_full(0, &mut table);
     io::read_full(0, &mut shorter);
-    sweep_both(b"multiply", &multiply, List::Multiply);
-    sweep_both(b"divide", &divide, List::Divide);
-    sweep(
-        b"divide, dividend of two bytes",
-        &divide,
-        List::DivideLong,
-        0xffffffff,
-    );
+    sweep_both::<Multiply>(b"multiply", &multiply);
+    sweep_both::<Divide>(b"divide", &divide);
+    sweep::<DivideLong>(b"divide, dividend of two bytes", &divide, 0xffffffff);
     not_promised(&divide, 0);
     not_promised(&divide, 0xffffffff);
-    sweep_both(b"table 11-2 without its jump", &table, List::Divide);
-    sweep_both(b"and without SDIVLAST2", &shorter, List::Divide);
+    sweep_both::<Divide>(b"table 11-2 without its jump", &table);
+    sweep_both::<Divide>(b"and without SDIVLAST2", &shorter);
 }

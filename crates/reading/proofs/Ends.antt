@@ -80,7 +80,7 @@ all-wrote {out} {d} {after} {stop} a =
 module _ (t d : List ℕ) where
   -- an answer and a buffer that meet it
   abbrev pub Meets : Result ℕ Refusal → List ℕ → Type 0
-  Meets o b = (wrote o b ≡ read_of t d) × (check_numbers (check_by o) ≡ check_numbers (first_of (read_rows t (length d))))
+  Meets o b = (wrote o b ≡ read_of t d) × (check_numbers o ≡ check_numbers (first_of (read_rows t (length d))))
 
   -- the answer is what the table says
   pub read-check : check_by (read_of t d).answer ≡ first_of (read_rows t (length d))

@@ -4,7 +4,7 @@
 ghost use Rattle.std.specs.Prelude.{◌≡◌, ◌++◌, ◌+◌, ◌*◌, ◌≤◌, ◌<◌, length};
 ghost use Rattle.std.specs.Iterator.{YieldsFirstRef, item_count};
 ghost use Rattle.text.specs.Fill.{Added};
-ghost use Rattle.reasons.specs.Reasons.{first_of, check_by, check_numbers};
+ghost use Rattle.reasons.specs.Reasons.{first_of, check_numbers};
 ghost use Rattle.reasons.specs.Output.{wrote};
 ghost use Rattle.packing.specs.Packing.{InRange};
 ghost use Rattle.grammar.specs.Grammar.{lines_of, word_in};
@@ -145,7 +145,7 @@ fn put_sheet(text: &[u8], head: Head, words: u32, sheet: &mut [u8]) -> usize
 // The sheet that a text stands for, at the start of a lent buffer; how many bytes it has. 24,574 bytes always suffice.
 pub fn read(text: &[u8], sheet: &mut [u8]) -> Result<usize, Refusal>
     ensures sheet_after { wrote result sheet.new ≡ read_of text.now sheet.old }
-    ensures numbers { check_numbers (check_by result) ≡ check_numbers (first_of (read_rows text.now (length sheet.old))) }
+    ensures numbers { check_numbers result ≡ check_numbers (first_of (read_rows text.now (length sheet.old))) }
 {
     let mut lines = Lines(text);
     let first = lines.next().unwrap_or(b"");

@@ -86,7 +86,7 @@ first_bad (x ∷ xs) b r p e = go x.holds refl e (first_bad xs b r p)
     go false h f i = rw h (i f)
 
 -- what `?` passes on
-pub passed_on : {A : Type 0} (r : Result A Refusal) (x : Refusal) → IsErrAnd r (λ y. y ≡ x) → r ≡ Err x
+pub passed_on : {A E : Type 0} (r : Result A E) (x : E) → IsErrAnd r (λ y. y ≡ x) → r ≡ Err x
 passed_on (Ok v) x h = absurd h
 passed_on (Err y) x h = ap Err h
 

@@ -50,8 +50,8 @@ answer_numbers (Ok count) = outcome_of Done count
 answer_numbers (Err refusal) = outcome_of refusal.reason refusal.place
 
 -- a check in numbers: 0 done at place 0, or the number and the place of a refusal
-abbrev pub check_numbers : Check → Outcome
-check_numbers (Ok done) = outcome_of Done 0
+abbrev pub check_numbers : {A : Type 0} → Result A Refusal → Outcome
+check_numbers (Ok value) = outcome_of Done 0
 check_numbers (Err refusal) = outcome_of refusal.reason refusal.place
 
 -- a row of a table of reasons: its condition, and the reason and place that are given where it holds and no earlier one does

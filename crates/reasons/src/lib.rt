@@ -71,19 +71,31 @@ pub fn numbered(reason: Reason, place: usize) -> Outcome
     }
 }
 
+// A refusal in numbers.
+impl From<Refusal> for Outcome {
+    ghost from_gives = { λ refusal outcome. outcome ≡ outcome_of refusal.reason refusal.place };
+
+    fn from(refusal: Refusal) -> Outcome {
+        numbered(refusal.reason, refusal.place)
+    }
+}
+
 // What a run answers, in numbers: 0 and the number of words run, or a refusal's.
 pub fn numbered_answer(answer: Result<usize, Refusal>) -> Outcome
     ensures { result ≡ answer_numbers answer }
 {
     match answer {
         Ok(count) => numbered(Reason::Done, count),
-        Err(refusal) => numbered(refusal.reason, refusal.place),
+        Err(refusal) => Outcome::from(refusal),
     }
 }
 
-// What a check answers, in numbers: 0 and 0 where there is nothing to refuse.
-pub fn numbered_check(check: Result<(), Refusal>) -> Outcome
+// What a check answers, in numbers: 0 and 0 where there is nothing to refuse, whatever else is answered then.
+pub fn numbered_check<T: Copy>(check: Result<T, Refusal>) -> Outcome
     ensures { result ≡ check_numbers check }
 {
-    numbered_answer(check.map(|()| 0))
+    match check {
+        Ok(_) => numbered(Reason::Done, 0),
+        Err(refusal) => Outcome::from(refusal),
+    }
 }

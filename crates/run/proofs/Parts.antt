@@ -1,6 +1,7 @@
 -- The two ways in which a run ends; running in parts equals running at once; a run has one outcome; and what `run` promises, clause by clause.
 use mathlib.Core.Path.{◌≡◌, refl, ap, ap₂, sym, subst, ◌∙◌}
 use mathlib.Core.List.{List, ◌++◌}
+use mathlib.Core.Bool.{Bool, true, false}
 use Prim.Native.Nat.{ℕ, ◌+◌, ◌-◌, ◌^◌, ◌≤◌, ◌<◌, min}
 use native.Mathlib.Omega.{arith}
 use lib.ListN.{length, take, drop, length-append, length-take, length-drop}
@@ -10,19 +11,18 @@ use Rattle.machine.specs.declared.Core.{Core}
 use Rattle.machine.specs.declared.Shown.{Shown}
 use Rattle.machine.specs.Core.{taken, handed_back}
 use Rattle.machine.proofs.Handed.{taken_back, taken_good}
-use Rattle.reasons.specs.Reasons.{number_of, outcome_of}
-use Rattle.reasons.specs.declared.Reason.{Reason}
-use Rattle.reasons.specs.declared.Reason.TheVariants.{Done}
-use Rattle.reasons.specs.declared.Check.{Check}
-use Rattle.reasons.specs.declared.Check.TheVariants.{Good as Passed, Bad}
+use Rattle.std.proofs.Common.{Some, Result, Ok, Err}
+use Rattle.std.specs.Prelude.{IsOk}
+use Rattle.std.specs.Result.{is_ok}
+use Rattle.reasons.specs.Reasons.{Check, good, number_of, answer_numbers}
+use Rattle.reasons.specs.declared.Refusal.{Refusal}
 use Rattle.chip.specs.declared.Word.{Word}
 use Rattle.chip.specs.Lists.{State, state, read_at, execs}
 use Rattle.chip.proofs.Words.{execs-size, execs-append}
 use Rattle.sheet.specs.Sheet.{executions_of, between, check_of}
-use Rattle.sheet.specs.declared.Given.TheVariants.{Number}
 use Rattle.sheet.proofs.Positions.{all_take, all_drop, take_left, drop-left}
-use Rattle.sheet.proofs.Table.{ready, start_within, start-later}
 use Rattle.sheet.proofs.Answers.{check_tells}
+use Rattle.sheet.proofs.Table.{ready, start_within, start-later}
 use Rattle.run.specs.declared.Going.{Going}
 use Rattle.run.specs.declared.RunAnswer.{RunAnswer}
 use Rattle.run.specs.Run.{state_of, entering, Sane, executed, Ended, ended, ran, unless, run_of, outcome_after, run_outcome, afterwards, together, in_parts, Stepped, Went}
@@ -32,12 +32,12 @@ use Rattle.run.proofs.Laws.{each_ready, execs_sane}
 -- from words that went and are counted, from the start on
 pub went_ran : (ws : List Word) (file : List ℕ) (m : Machine) (l : List ℕ) (c : Core) (g : Going) (h : Machine) → c ≡ taken m
     → Went ws file (record { core = c; count = 0 }) l g → h ≡ handed_back g.core
-    → ended (record { reason = Done; place = g.count; machine = h }) l ≡ ran ws (entering file m)
+    → ended (record { outcome = Ok g.count; machine = h }) l ≡ ran ws (entering file m)
 went_ran ws file m l c g h ec w eh =
     let t : state_of l g ≡ execs ws (entering file m) = w.state ∙ ap (λ (x : Core). execs ws (state file x)) ec in
     let k : g.count ≡ length ws = w.count ∙ none (length ws) in
-    ap₂ (λ (n : ℕ) (x : Machine). ended (record { reason = Done; place = n; machine = x }) l) k eh
-    ∙ ap (λ (u : State). ended (record { reason = Done; place = length ws; machine = handed_back u.core }) u.file) t
+    ap₂ (λ (n : ℕ) (x : Machine). ended (record { outcome = Ok n; machine = x }) l) k eh
+    ∙ ap (λ (u : State). ended (record { outcome = Ok (length ws); machine = handed_back u.core }) u.file) t
   where
     none : (n : ℕ) → 0 + n ≡ n
     none n = omega arith
@@ -47,12 +47,12 @@ pub went_list : {ws vs : List Word} {l₀ l : List ℕ} {g₀ g : Going} → ws 
 went_list {ws} {vs} {l₀} {l} {g₀} {g} e w = subst (λ (us : List Word). Went us l₀ g₀ l g) e w
 
 module _ (s file : List ℕ) (m : Machine) (start allowance : ℕ) where
-  pub run-refused : (r : Reason) (p : ℕ) → check_of s (Number (length file)) (Number start) ≡ Bad r p
-      → ended (record { reason = r; place = p; machine = m }) file ≡ run_of s file m start allowance
+  pub run-refused : (x : Refusal) → check_of s (Some (length file)) (Some start) ≡ Err x
+      → ended (record { outcome = Err x; machine = m }) file ≡ run_of s file m start allowance
   unfolding run_of
-  run-refused r p e = sym (ap (λ (c : Check). unless c file m (ran (executed s start allowance) (entering file m))) e)
+  run-refused x e = sym (ap (λ (c : Check). unless c file m (ran (executed s start allowance) (entering file m))) e)
 
-  pub run_is : check_of s (Number (length file)) (Number start) ≡ Passed → run_of s file m start allowance ≡ ran (executed s start allowance) (entering file m)
+  pub run_is : check_of s (Some (length file)) (Some start) ≡ good → run_of s file m start allowance ≡ ran (executed s start allowance) (entering file m)
   unfolding run_of
   run_is e = ap (λ (c : Check). unless c file m (ran (executed s start allowance) (entering file m))) e
 
@@ -74,7 +74,7 @@ pub back : (t : State) → Sane t → entering t.file (handed_back t.core) ≡ t
 back t g = ap (state t.file) (taken_back t.core g.status)
 
 module _ (s file : List ℕ) (m : Machine) (start a b : ℕ) (registers : (r : ℕ) → read_at file r < 2 ^ 32) (q : m.q < 2 ^ 32)
-    (passed : check_of s (Number (length file)) (Number start) ≡ Passed) where
+    (passed : check_of s (Some (length file)) (Some start) ≡ good) where
   -- the executions left, those of the first run, and the state after it
   abbrev rest : List Word
   rest = drop start (executions_of s)
@@ -87,7 +87,7 @@ module _ (s file : List ℕ) (m : Machine) (start a b : ℕ) (registers : (r : �
 
   sane : Sane t₁
   sane =
-      execs_sane (length file) first (entering file m) (all_take _ a rest (all_drop _ start (executions_of s) (each_ready s (length file) (ready s (length file) (Number start) passed))))
+      execs_sane (length file) first (entering file m) (all_take _ a rest (all_drop _ start (executions_of s) (each_ready s (length file) (ready s (length file) (Some start) passed))))
       (entering_sane file m registers q)
 
   -- What a run hands back is in carry mode, whatever words ran: read so again it is the same.
@@ -103,13 +103,13 @@ module _ (s file : List ℕ) (m : Machine) (start a b : ℕ) (registers : (r : �
       (sym (drop-drop (length first) start (executions_of s)) ∙ drop-left rest a (length first) (length-take a rest))
 
   -- it is not refused
-  again : check_of s (Number (length t₁.file)) (Number (start + length first)) ≡ Passed
+  again : check_of s (Some (length t₁.file)) (Some (start + length first)) ≡ good
   again =
-      let h : start ≤ length (executions_of s) = start_within s (Number (length file)) start passed in
+      let h : start ≤ length (executions_of s) = start_within s (Some (length file)) start passed in
       let d : length rest ≡ length (executions_of s) - start = length-drop start (executions_of s) in
       let k : length first ≡ min a (length rest) = length-take a rest in
-      ap (λ (n : ℕ). check_of s (Number n) (Number (start + length first))) (execs-size first (entering file m))
-      ∙ start-later s (Number (length file)) (Number start) (start + length first) passed (omega arith)
+      ap (λ (n : ℕ). check_of s (Some n) (Some (start + length first))) (execs-size first (entering file m))
+      ∙ start-later s (Some (length file)) (Some start) (start + length first) passed (omega arith)
 
   -- Running in parts equals running at once. A run of a executions, and from what it left a run of b more, leave the registers, Q and the
   -- status that one run of a + b leaves, and the counts of the two add up to its count.
@@ -122,7 +122,7 @@ module _ (s file : List ℕ) (m : Machine) (start a b : ℕ) (registers : (r : �
       = run_is s t₁.file (handed_back t₁.core) (start + length first) b again ∙ ap₂ ran second_is (back t₁ sane) in
       run_is s file m start (a + b) passed
       ∙ ap (λ (ws : List Word). ran ws (entering file m)) whole
-      ∙ ap₂ (λ (n : ℕ) (t : State). ended (record { reason = Done; place = n; machine = handed_back t.core }) t.file) (length-append first second) (execs-append first second (entering file m))
+      ∙ ap₂ (λ (n : ℕ) (t : State). ended (record { outcome = Ok n; machine = handed_back t.core }) t.file) (length-append first second) (execs-append first second (entering file m))
       ∙ ap (together (ran first (entering file m))) (sym two)
       ∙ ap (λ (x : Ended). together x (afterwards s start x b)) (sym one)
 
@@ -144,39 +144,46 @@ one-outcome s file m start allowance x y e f = e ∙ sym f
 
 -- ---- the promise of `run`, from its first clause
 module _ (s file : List ℕ) (m : Machine) (start allowance : ℕ) where
-  -- an answer with reason 0 was not refused
-  done_passed : (run_of s file m start allowance).answer.reason ≡ Done → check_of s (Number (length file)) (Number start) ≡ Passed
-  done_passed e = go (check_of s (Number (length file)) (Number start)) refl
+  -- a run that is not refused was not refused by the check
+  done_passed : IsOk (run_of s file m start allowance).answer.outcome → check_of s (Some (length file)) (Some start) ≡ good
+  done_passed h = go (check_of s (Some (length file)) (Some start)) refl
     where
-      go : (c : Check) → check_of s (Number (length file)) (Number start) ≡ c → c ≡ Passed
-      go Passed d = refl
-      go (Bad r p) d =
-          let f : r ≡ Done = ap (λ (x : Ended). x.answer.reason) (run-refused s file m start allowance r p d) ∙ e in
-          let n : number_of r ≡ 0 = ap number_of f in
-          absurd (omega (arith, check_tells s (Number (length file)) (Number start) r p d))
+      go : (c : Check) → check_of s (Some (length file)) (Some start) ≡ c → c ≡ good
+      go (Ok passed) d = refl
+      go (Err x) d = let f : ◌≡◌ {A = Bool} false true = rw (← run-refused s file m start allowance x d) at h in cc
 
-  told : outcome_of (run_of s file m start allowance).answer.reason (run_of s file m start allowance).answer.place ≡ run_outcome s (length file) start allowance
+  -- nor was one whose answer has number 0
+  pub zero_ok : (answer_numbers (run_of s file m start allowance).answer.outcome).reason ≡ 0 → IsOk (run_of s file m start allowance).answer.outcome
+  zero_ok e = go (check_of s (Some (length file)) (Some start)) refl
+    where
+      go : (c : Check) → check_of s (Some (length file)) (Some start) ≡ c → IsOk (run_of s file m start allowance).answer.outcome
+      go (Ok passed) d = ap (λ (x : Ended). is_ok x.answer.outcome) (run_is s file m start allowance d)
+      go (Err x) d =
+          let n : number_of x.reason ≡ 0 = ap (λ (y : Ended). (answer_numbers y.answer.outcome).reason) (run-refused s file m start allowance x d) ∙ e in
+          absurd (omega (arith, check_tells s (Some (length file)) (Some start) x.reason x.place d))
+
+  told : answer_numbers (run_of s file m start allowance).answer.outcome ≡ run_outcome s (length file) start allowance
   unfolding run_of
-  told = go (check_of s (Number (length file)) (Number start))
+  told = go (check_of s (Some (length file)) (Some start))
     where
       ws : List Word
       ws = executed s start allowance
 
-      go : (c : Check) → outcome_of (unless c file m (ran ws (entering file m))).answer.reason (unless c file m (ran ws (entering file m))).answer.place ≡ outcome_after c (length ws)
-      go Passed = refl
-      go (Bad r p) = refl
+      go : (c : Check) → answer_numbers (unless c file m (ran ws (entering file m))).answer.outcome ≡ outcome_after c (length ws)
+      go (Ok passed) = refl
+      go (Err refusal) = refl
 
   -- The answer in numbers; and where the run is done, it is the same as any two runs of parts of its allowance, one after the other.
   pub promised : ((r : ℕ) → read_at file r < 2 ^ 32) → m.q < 2 ^ 32 → (r : RunAnswer) (l : List ℕ) → ended r l ≡ run_of s file m start allowance
       → (ended r l ≡ run_of s file m start allowance)
-      × ((outcome_of r.reason r.place ≡ run_outcome s (length file) start allowance)
-      × (r.reason ≡ Done → (a b : ℕ) → a + b ≡ allowance → ended r l ≡ in_parts s file m start a b))
+      × ((answer_numbers r.outcome ≡ run_outcome s (length file) start allowance)
+      × (IsOk r.outcome → (a b : ℕ) → a + b ≡ allowance → ended r l ≡ in_parts s file m start a b))
   promised registers q r l e = (
     e,
     (
-      ap (λ (x : Ended). outcome_of x.answer.reason x.answer.place) e ∙ told,
+      ap (λ (x : Ended). answer_numbers x.answer.outcome) e ∙ told,
       λ d a b h.
           e ∙ ap (run_of s file m start) (sym h)
-          ∙ run-in_parts s file m start a b registers q (done_passed (sym (ap (λ (x : Ended). x.answer.reason) e) ∙ d)),
+          ∙ run-in_parts s file m start a b registers q (done_passed (subst (λ (x : Ended). IsOk x.answer.outcome) e d)),
     ),
   )

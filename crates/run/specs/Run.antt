@@ -1,19 +1,16 @@
 -- A run of a sheet on a lent file of registers (document 01, 'Sheets and words' and 'Reasons given'): refused with all as it was, or its
 -- executions one after another from a start on.
-use Rattle.std.specs.Prelude.{◌≡◌, List, ℕ, ◌+◌, ◌^◌, ◌<◌, length, take, drop}
+use Rattle.std.specs.Prelude.{◌≡◌, List, ℕ, ◌+◌, ◌^◌, ◌<◌, length, take, drop, Some, Result, Ok, Err}
 use Rattle.machine.specs.declared.Machine.{Machine}
 use Rattle.machine.specs.declared.Shown.{Shown}
 use Rattle.machine.specs.Status.{Good}
 use Rattle.machine.specs.Core.{taken, handed_back}
-use Rattle.reasons.specs.Reasons.{outcome_of}
+use Rattle.reasons.specs.Reasons.{Check, answer_numbers}
 use Rattle.reasons.specs.declared.Outcome.{Outcome}
-use Rattle.reasons.specs.declared.Reason.TheVariants.{Done}
-use Rattle.reasons.specs.declared.Check.{Check}
-use Rattle.reasons.specs.declared.Check.TheVariants.{Good as Passed, Bad}
+use Rattle.reasons.specs.declared.Refusal.{Refusal}
 use Rattle.chip.specs.declared.Word.{Word}
 use Rattle.chip.specs.Lists.{State, state, read_at, shown_of, step_of, execs}
 use Rattle.sheet.specs.Sheet.{executions_of, check_of}
-use Rattle.sheet.specs.declared.Given.TheVariants.{Number}
 use Rattle.run.specs.declared.Going.{Going}
 use Rattle.run.specs.declared.RunAnswer.{RunAnswer}
 
@@ -36,14 +33,14 @@ pub record Ended : Type 0 where
 abbrev pub ended : RunAnswer → List ℕ → Ended
 ended a file = record { answer = a; file = file }
 
--- done: the place is the number of steps
+-- done: the number of steps
 abbrev pub ran : List Word → State → Ended
-ran ws t = ended (record { reason = Done; place = length ws; machine = handed_back (execs ws t).core }) (execs ws t).file
+ran ws t = ended (record { outcome = Ok (length ws); machine = handed_back (execs ws t).core }) (execs ws t).file
 
 -- refused: registers, Q and status are as they were, bit for bit
 abbrev pub unless : Check → List ℕ → Machine → Ended → Ended
-unless Passed file m e = e
-unless (Bad reason place) file m e = ended (record { reason = reason; place = place; machine = m }) file
+unless (Ok passed) file m e = e
+unless (Err refusal) file m e = ended (record { outcome = Err refusal; machine = m }) file
 
 -- from the start on, the smaller of the allowance and the executions left
 abbrev pub executed : List ℕ → ℕ → ℕ → List Word
@@ -51,25 +48,35 @@ executed s start allowance = take allowance (drop start (executions_of s))
 
 unfoldable pub run_of : List ℕ → List ℕ → Machine → ℕ → ℕ → Ended
 run_of s file m start allowance =
-    unless (check_of s (Number (length file)) (Number start)) file m (ran (executed s start allowance) (entering file m))
+    unless (check_of s (Some (length file)) (Some start)) file m (ran (executed s start allowance) (entering file m))
 
 -- in numbers: 0 and the executions that ran, or the number and the place of a refusal
 abbrev pub outcome_after : Check → ℕ → Outcome
-outcome_after Passed n = outcome_of Done n
-outcome_after (Bad reason place) n = outcome_of reason place
+outcome_after (Ok passed) n = answer_numbers (Ok n)
+outcome_after (Err refusal) n = answer_numbers (Err refusal)
 
 abbrev pub run_outcome : List ℕ → ℕ → ℕ → ℕ → Outcome
-run_outcome s lent start allowance = outcome_after (check_of s (Number lent) (Number start)) (length (executed s start allowance))
+run_outcome s lent start allowance = outcome_after (check_of s (Some lent) (Some start)) (length (executed s start allowance))
 
 -- ---- running in parts
+-- how many executions ran; of a refusal, its place
+abbrev pub count_in : Result ℕ Refusal → ℕ
+count_in (Ok n) = n
+count_in (Err refusal) = refusal.place
+
+-- as many more
+abbrev pub more : ℕ → Result ℕ Refusal → Result ℕ Refusal
+more k (Ok n) = Ok (k + n)
+more k (Err refusal) = Err (record { reason = refusal.reason; place = k + refusal.place })
+
 -- a run from what another left, from the execution after its last on
 abbrev pub afterwards : List ℕ → ℕ → Ended → ℕ → Ended
-afterwards s start first allowance = run_of s first.file first.answer.machine (start + first.answer.place) allowance
+afterwards s start first allowance = run_of s first.file first.answer.machine (start + count_in first.answer.outcome) allowance
 
 -- two runs as one: what the second left, and the executions of both
 abbrev pub together : Ended → Ended → Ended
 together first second =
-    ended (record { reason = second.answer.reason; place = first.answer.place + second.answer.place; machine = second.answer.machine }) second.file
+    ended (record { outcome = more (count_in first.answer.outcome) second.answer.outcome; machine = second.answer.machine }) second.file
 
 -- a run of at most a executions, and from what it left one of at most b more
 abbrev pub in_parts : List ℕ → List ℕ → Machine → ℕ → ℕ → ℕ → Ended

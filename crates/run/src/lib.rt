@@ -1,8 +1,8 @@
 // Runs a sheet on a lent file of registers.
 #![tactic(auto)]
 
-ghost use Rattle.std.specs.Prelude.{◌≡◌, [], ◌∷◌, ℕ, ◌+◌, ◌-◌, ◌^◌, ◌≤◌, ◌<◌, min, length};
-ghost use Rattle.reasons.specs.Reasons.{outcome_of};
+ghost use Rattle.std.specs.Prelude.{◌≡◌, [], ◌∷◌, ℕ, ◌+◌, ◌-◌, ◌^◌, ◌≤◌, ◌<◌, length, IsOk};
+ghost use Rattle.reasons.specs.Reasons.{answer_numbers};
 ghost use Rattle.machine.specs.Status.{Good};
 ghost use Rattle.machine.specs.Pins.{pins_in};
 ghost use Rattle.chip.specs.Lists.{state};
@@ -12,23 +12,21 @@ ghost use Rattle.run.specs.Step.{standing, halted, no_word, performed_on, one_wo
 
 use chip::{SingleWord, Word};
 use machine::{Core, Inputs, Machine, Shown, Status};
-use reasons::{Check, Reason};
+use reasons::Refusal;
 use sheet::Which;
 
-// What a run answers: done, with the number of words run as its place, or the reason and place of a refusal; Q and status.
+// What a run answers: the number of words run, or why it is refused; Q and status.
 #[derive(Clone, Copy)]
 pub struct RunAnswer {
-    pub reason: Reason,
-    pub place: usize,
+    pub outcome: Result<usize, Refusal>,
     pub machine: Machine,
 }
 
-// What one word of a sheet answers: done, with the number of words run as its place, 1 or 0, or the reason and place of a refusal; Y, its
-// parity and the pins as a single word answers them; Q and status.
+// What one word of a sheet answers: the number of words run, 1 or 0, or why it is refused; Y, its parity and the pins as a single word answers
+// them; Q and status.
 #[derive(Clone, Copy)]
 pub struct StepAnswer {
-    pub reason: Reason,
-    pub place: usize,
+    pub outcome: Result<usize, Refusal>,
     pub y: u32,
     pub parity: u32,
     pub machine: Machine,
@@ -52,7 +50,6 @@ fn step(word: Word, file: &mut [u32], core: Core) -> Shown
     let a = word.a as usize;
     let b = word.b as usize;
     let y = word.y as usize;
-    let status = core.status;
     let x = Inputs {
         code: word.code,
         position: word.position,
@@ -64,7 +61,7 @@ fn step(word: Word, file: &mut [u32], core: Core) -> Shown
         a: file[a],
         b: file[b],
         q: core.q,
-        status,
+        status: core.status,
     };
     let shown = dispatch::operate(word.opcode, x).shown(word.borrow);
     if word.write == 1 {
@@ -106,11 +103,9 @@ fn advance<'a>(
     requires index_bound { (index < words_of (sheet_of of main.now handler.now)) × (going.count + 1 < 2 ^ 64) }
     ensures { Went (word_at (sheet_of of main.now handler.now) index ∷ []) file.old going file.new result }
 {
-    let before = going.core;
-    let shown = step_at(main, handler, of, index, file, before);
-    let core = shown.core;
+    let shown = step_at(main, handler, of, index, file, going.core);
     Going {
-        core,
+        core: shown.core,
         count: going.count + 1,
     }
 }
@@ -130,22 +125,13 @@ pub fn span<'a>(
     ensures { Went (between from to (executions_of (sheet_of of main.now handler.now))) file.old going file.new result }
 {
     let mut at = going;
-    let mut index = from;
-    while index < to {
+    for index in from..to {
         at = advance(main, handler, of, index, file, at);
-        index += 1;
     }
     at
 }
 
 // ---- a whole run
-
-// The smaller of two numbers.
-fn least(a: usize, b: usize) -> usize
-    ensures { result ≡ min a b }
-{
-    if a < b { a } else { b }
-}
 
 // Runs a sheet from execution `start` on, at most `allowance` of them.
 pub fn run(
@@ -156,29 +142,25 @@ pub fn run(
     allowance: usize,
 ) -> RunAnswer
     ensures file_after { ended result file.new ≡ run_of sheet.now file.old machine start allowance }
-    ensures numbers { outcome_of result.reason result.place ≡ run_outcome sheet.now (length file.old) start allowance }
-    ensures in_parts { result.reason ≡ Reason.Done → (a b : ℕ) → a + b ≡ allowance
+    ensures numbers { answer_numbers result.outcome ≡ run_outcome sheet.now (length file.old) start allowance }
+    ensures in_parts { IsOk result.outcome → (a b : ℕ) → a + b ≡ allowance
         → ended result file.new ≡ in_parts sheet.now file.old machine start a b }
 {
-    let check = sheet::check_start(sheet, file.len(), start);
-    if let Check::Bad { reason, place } = check {
+    if let Err(refusal) = sheet::check_start(sheet, file.len(), start) {
         return RunAnswer {
-            reason,
-            place,
+            outcome: Err(refusal),
             machine,
         };
     }
-    let count = least(allowance, sheet::executions(sheet) - start);
+    let count = allowance.min(sheet::executions(sheet) - start);
     let first = Going {
         core: machine.enter(),
         count: 0,
     };
     let last = span(sheet, sheet, Which::Main, file, first, start, start + count);
-    let core = last.core;
     RunAnswer {
-        reason: Reason::Done,
-        place: last.count,
-        machine: core.leave(),
+        outcome: Ok(last.count),
+        machine: last.core.leave(),
     }
 }
 
@@ -186,12 +168,11 @@ pub fn run(
 // It goes through `chip::single_word`, not through `step`: with a second caller the compiler would no longer expand `step` into the loop of a run.
 
 // No word ran: Y and its parity are 0, and the pins show the status.
-fn no_word(reason: Reason, place: usize, machine: Machine) -> StepAnswer
-    ensures { result ≡ no_word reason place machine }
+fn no_word(outcome: Result<usize, Refusal>, machine: Machine) -> StepAnswer
+    ensures { result ≡ no_word outcome machine }
 {
     StepAnswer {
-        reason,
-        place,
+        outcome,
         y: 0,
         parity: 0,
         machine,
@@ -229,8 +210,7 @@ fn perform(word: Word, file: &mut [u32], machine: Machine) -> StepAnswer
 {
     let single = chip::single_word(at_chip(word, file, machine));
     let answer = StepAnswer {
-        reason: Reason::Done,
-        place: 1,
+        outcome: Ok(1),
         y: single.y,
         parity: single.parity,
         machine: Machine {
@@ -250,16 +230,14 @@ fn perform(word: Word, file: &mut [u32], machine: Machine) -> StepAnswer
 // Runs execution `start` of a sheet, if there is one, and shows what it leaves.
 pub fn one_word(sheet: &[u8], file: &mut [u32], machine: Machine, start: usize) -> StepAnswer
     ensures file_after { halted result file.new ≡ one_word_of sheet.now file.old machine start }
-    ensures numbers { outcome_of result.reason result.place ≡ run_outcome sheet.now (length file.old) start 1 }
+    ensures numbers { answer_numbers result.outcome ≡ run_outcome sheet.now (length file.old) start 1 }
     ensures pins { result.pins ≡ pins_in result.machine.status }
 {
-    let check = sheet::check_start(sheet, file.len(), start);
-    if let Check::Bad { reason, place } = check {
-        return no_word(reason, place, machine);
+    if let Err(refusal) = sheet::check_start(sheet, file.len(), start) {
+        return no_word(Err(refusal), machine);
     }
     if sheet::executions(sheet) <= start {
-        let core = machine.enter();
-        return no_word(Reason::Done, 0, core.leave());
+        return no_word(Ok(0), machine.enter().leave());
     }
     perform(
         sheet::word_at(sheet, sheet, Which::Main, start),

@@ -11,12 +11,11 @@ use Rattle.machine.specs.declared.Machine.{Machine}
 use Rattle.machine.specs.Status.{carry_mode, as_read}
 use Rattle.machine.specs.Inputs.{Sound}
 use Rattle.machine.proofs.Handed.{taken_good}
-use Rattle.reasons.specs.declared.Reason.TheVariants.{Done}
+use Rattle.std.proofs.Common.{Some, Ok}
 use Rattle.chip.specs.declared.Word.{Word}
 use Rattle.chip.specs.Lists.{State, execs}
 use Rattle.chip.proofs.Words.{execs-append}
 use Rattle.sheet.specs.Sheet.{executions_of, WordReady}
-use Rattle.sheet.specs.declared.Given.TheVariants.{Number}
 use Rattle.sheet.proofs.Positions.{All, all_take, all_drop}
 use Rattle.sheet.proofs.Positions.All.{more}
 use Rattle.sheet.proofs.Table.{ready}
@@ -49,14 +48,14 @@ module _ (s file : List ℕ) (m : Machine) (start : ℕ) (call : Accepted s file
     fit : All (WordReady (length file)) ws
     fit =
         subst (All (WordReady (length file))) stands
-        (all_take _ (length ws) (drop start (executions_of s)) (all_drop _ start (executions_of s) (each_ready s (length file) (ready s (length file) (Number start) call.passed))))
+        (all_take _ (length ws) (drop start (executions_of s)) (all_drop _ start (executions_of s) (each_ready s (length file) (ready s (length file) (Some start) call.passed))))
 
     -- A run of words that stand in an accepted sheet is done, counts them, and hands back what they leave one after another.
     pub run-leaves : handed (run_on s file m start ws) ≡ execs ws (entering file m)
     run-leaves = ap handed runs ∙ back (execs ws (entering file m)) (execs_sane (length file) ws (entering file m) fit sane)
 
-    pub run_counts : ((run_on s file m start ws).answer.reason ≡ Done) × ((run_on s file m start ws).answer.place ≡ length ws)
-    run_counts = (ap (λ (e : Ended). e.answer.reason) runs, ap (λ (e : Ended). e.answer.place) runs)
+    pub run_counts : (run_on s file m start ws).answer.outcome ≡ Ok (length ws)
+    run_counts = ap (λ (e : Ended). e.answer.outcome) runs
 
   -- the first of them: its registers are in the file
   first_ready : (w : Word) (ws : List Word) → Stands s start (w ∷ ws) → WordReady (length file) w

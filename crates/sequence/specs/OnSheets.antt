@@ -1,11 +1,10 @@
 -- The sequences as they stand in a sheet, and what a run of them leaves.
-use Rattle.std.specs.Prelude.{◌≡◌, List, ℕ, ◌^◌, ◌<◌, length}
+use Rattle.std.specs.Prelude.{◌≡◌, List, ℕ, ◌^◌, ◌<◌, length, Some}
 use Rattle.machine.specs.declared.Machine.{Machine}
-use Rattle.reasons.specs.declared.Check.TheVariants.{Good as Passed}
+use Rattle.reasons.specs.Reasons.{good}
 use Rattle.chip.specs.declared.Word.{Word}
 use Rattle.chip.specs.Lists.{State, read_at}
 use Rattle.sheet.specs.Sheet.{check_of}
-use Rattle.sheet.specs.declared.Given.TheVariants.{Number}
 use Rattle.run.specs.Run.{Ended, entering, executed, run_of}
 use Rattle.sequence.specs.Decimal.{DecimalOperation, Layout, sum_words, difference_words, OfDigits, Summed, TakenAway}
 
@@ -15,7 +14,7 @@ Stands s start ws = executed s start (length ws) ≡ ws
 
 -- a call that is not refused, on registers and Q of 32 bits
 pub record Accepted (s file : List ℕ) (m : Machine) (start : ℕ) : Type 0 where
-  pub passed : check_of s (Number (length file)) (Number start) ≡ Passed
+  pub passed : check_of s (Some (length file)) (Some start) ≡ good
   pub registers : (r : ℕ) → read_at file r < 2 ^ 32
   pub q : m.q < 2 ^ 32
 

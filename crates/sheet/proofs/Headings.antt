@@ -8,6 +8,7 @@ use Rattle.reasons.specs.Reasons.{Check, good, first_of, check_by, check_numbers
 use Rattle.std.proofs.Common.{Option, Result, Ok, Err}
 use Rattle.reasons.specs.declared.Refusal.{Refusal}
 use Rattle.reasons.specs.declared.Reason.TheVariants.{Short}
+use Rattle.reasons.proofs.Wrote.{numbers_by}
 use Rattle.reasons.proofs.Rows.{None, good_none, none_good}
 use Rattle.reasons.proofs.Rows.None.{none, more}
 use Rattle.sheet.specs.declared.Heading.{Heading}
@@ -42,8 +43,8 @@ module _ (s : List ℕ) where
       go (Err refusal) = refl
 
   -- and so are its numbers
-  pub heading_numbers_lem : (r : Result Heading Refusal) → r ≡ heading_of s → (r ≡ heading_of s) × (check_numbers (check_by r) ≡ check_numbers (first_of (heading_rows s)))
-  heading_numbers_lem r e = (e, ap check_numbers (ap check_by e ∙ heading_check))
+  pub heading_numbers_lem : (r : Result Heading Refusal) → r ≡ heading_of s → (r ≡ heading_of s) × (check_numbers r ≡ check_numbers (first_of (heading_rows s)))
+  heading_numbers_lem r e = (e, numbers_by r ∙ ap check_numbers (ap check_by e ∙ heading_check))
 
   -- A sheet that passes a check has its header read: version 1, and the counts by which it runs.
   pub heading_checked : (beside : ℕ) (file start : Option ℕ) → check_beside beside s file start ≡ good

@@ -2,7 +2,7 @@
 #![tactic(auto)]
 
 ghost use Rattle.std.specs.Prelude.{◌≡◌, ◌+◌, ◌*◌, ◌≤◌, length};
-ghost use Rattle.reasons.specs.Reasons.{first_of, none_hold, rows_by, check_by, check_numbers};
+ghost use Rattle.reasons.specs.Reasons.{first_of, none_hold, rows_by, check_numbers};
 ghost use Rattle.packing.specs.Registers.{Narrow};
 ghost use Rattle.sheet.specs.Sheet.{number4, version_of, count_of, registers_of, words_of, declared_of, part_of, number_at, word_at, executions_of, sheet_of, bad_header, fewer, number_rows, word_rows, opening_rows, head_rows, start_rows, check_beside, check_of, input_of};
 ghost use Rattle.sheet.specs.Heading.{heading_rows, heading_of};
@@ -32,7 +32,7 @@ fn header(s: &[u8]) -> u32
     requires { 4 ≤ length s.now }
     ensures { result ≡ number4 s.now }
 {
-    bits::four_bytes(s[0], s[1], s[2], s[3])
+    bits::four_bytes_at(s, 0)
 }
 
 // The word count of a header.
@@ -281,7 +281,7 @@ pub fn check_input(x: &[u8]) -> Result<(), Refusal>
 // The header in the first four bytes of `s`, for a caller that sizes its buffers by it: what follows it is not looked at.
 pub fn read_header(s: &[u8]) -> Result<Heading, Refusal>
     ensures value { result ≡ heading_of s.now }
-    ensures numbers { check_numbers (check_by result) ≡ check_numbers (first_of (heading_rows s.now)) }
+    ensures numbers { check_numbers result ≡ check_numbers (first_of (heading_rows s.now)) }
 {
     let length = s.len();
     refuse_if(length < 4, Reason::Short, 0)?;

@@ -5,6 +5,8 @@ use native.Mathlib.Nat.{mod-eq_of_lt, zero-mul, one-mul}
 use native.Mathlib.Omega.{arith}
 use lib.Pow.{pow_mono}
 use Rattle.bits.proofs.BitByBit.{by_flag}
+use Rattle.bits.proofs.Laws.{merged_wrap, zero_wrap, bit_wrap}
+use Rattle.machine.proofs.Kept.{bits-le}
 
 pub top-le : (n f : ℕ) → n ≤ 32 → f < 2 → f * 2 ^ (n - 1) ≤ 2 ^ 31
 top-le n f h hf =
@@ -16,3 +18,8 @@ top-le n f h hf =
 
 pub top_wrap : (n f : ℕ) → n ≤ 32 → f < 2 → f * 2 ^ (n - 1) % 2 ^ 32 ≡ f * 2 ^ (n - 1)
 top_wrap n f h hf = let l : f * 2 ^ (n - 1) ≤ 2 ^ 31 = top-le n f h hf in mod-eq_of_lt (omega arith)
+
+pub ruleset filled = (top-le, top_wrap)
+
+-- the selected bits of a word are those of the number before it wraps
+pub ruleset wrapped = (bits-le, merged_wrap, zero_wrap, bit_wrap)

@@ -10,6 +10,7 @@ ghost use Rattle.shifts.specs.SingleBit.{downshifted, upshifted, down, down_q, u
 use machine::{Inputs, Outputs};
 
 // The n selected bits of s downshifted by one bit, with f shifted in at the top.
+#[tactic(auto, using(crate::proofs::Fill::filled), unfolding(crate::specs::SingleBit::downshifted))]
 fn downshifted(s: u32, f: u32, n: u32) -> u32
     requires { (1 ≤ n) × (n ≤ 32) × (f < 2) }
     ensures { result ≡ downshifted n s f }
@@ -26,13 +27,14 @@ fn upshifted(s: u32, f: u32) -> u32
 }
 
 // DN1-0F, DN1-1F and DN1-LF of A or B: L gets the source's least significant bit.
+#[tactic(auto, unfolding(crate::specs::SingleBit::down))]
 fn down(x: Inputs, s: u32, f: u32) -> Outputs
     requires { Sound x × (f < 2) }
     ensures { result ≡ down x s f }
 {
     let n = x.bits();
     let o = x.result(downshifted(s, f, n), s);
-    let mut status = o.held();
+    let mut status = o.status.held();
     status.l = s % 2;
     Outputs {
         y: o.y,
@@ -42,6 +44,7 @@ fn down(x: Inputs, s: u32, f: u32) -> Outputs
 }
 
 // The same of A, Q or B, Q: the source's least significant bit goes into Q at the top, and Q's into L.
+#[tactic(auto, unfolding(crate::specs::SingleBit::down, crate::specs::SingleBit::down_q))]
 fn down_over_q(x: Inputs, s: u32, f: u32) -> Outputs
     requires { Sound x × (f < 2) }
     ensures { result ≡ down_q x s f }
@@ -49,7 +52,7 @@ fn down_over_q(x: Inputs, s: u32, f: u32) -> Outputs
     let n = x.bits();
     let o = down(x, s, f);
     let q = x.q;
-    let mut status = o.held();
+    let mut status = o.status.held();
     status.l = q % 2;
     Outputs {
         y: o.y,
@@ -77,6 +80,7 @@ fn down_arithmetic_over_q(x: Inputs, s: u32) -> Outputs
 }
 
 // UP1 of A or B: L gets the source's sign bit, V that bit xor the sign bit of Y.
+#[tactic(auto, using(crate::proofs::Fill::wrapped), unfolding(crate::specs::SingleBit::up))]
 fn up(x: Inputs, s: u32, f: u32) -> Outputs
     requires { Sound x × (f < 2) }
     ensures { result ≡ up x s f }
@@ -85,7 +89,7 @@ fn up(x: Inputs, s: u32, f: u32) -> Outputs
     let r = upshifted(s, f);
     let o = x.result(r, s);
     let l = bits::sign(s, n);
-    let mut status = o.held();
+    let mut status = o.status.held();
     status.v = (l + bits::sign(r, n)) % 2;
     status.l = l;
     Outputs {
@@ -96,17 +100,17 @@ fn up(x: Inputs, s: u32, f: u32) -> Outputs
 }
 
 // UP1 of A, Q or B, Q: Q's sign bit goes into the source at bit 0, and f into Q.
+#[tactic(auto, using(crate::proofs::Fill::wrapped), unfolding(crate::specs::SingleBit::up, crate::specs::SingleBit::up_q))]
 fn up_over_q(x: Inputs, s: u32, f: u32) -> Outputs
     requires { Sound x × (f < 2) }
     ensures { result ≡ up_q x s f }
 {
     let n = x.bits();
     let o = up(x, s, bits::sign(x.q, n));
-    let status = o.status;
     Outputs {
         y: o.y,
         q: bits::merge(upshifted(x.q, f), x.q, n),
-        status,
+        status: o.status,
     }
 }
 

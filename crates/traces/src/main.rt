@@ -3,30 +3,16 @@
 // oracle/traces.sh, the text by the independent program.
 #![tactic(auto)]
 
-ghost use Rattle.std.specs.Prelude.{◌+◌, ◌≤◌, length};
-ghost use Rattle.tracing.specs.Lines.{most_length};
-
-// The length that stands at a place.
-fn length_at(bundle: &[u8], at: usize) -> usize
-    requires { at + 4 ≤ length bundle.now }
-{
-    bits::four_bytes(bundle[at], bundle[at + 1], bundle[at + 2], bundle[at + 3]) as usize
-}
-
 // The texts of the inputs one after another; an input that is cut short ends it.
-fn all(bundle: &[u8], text: &mut [u8])
-    requires { most_length ≤ length text.old }
-{
-    let mut at: usize = 0;
-    while at + 4 <= bundle.len() {
-        let from = at + 4;
-        let n = length_at(bundle, at);
-        if bundle.len() - from < n {
+fn all(bundle: &[u8], text: &mut [u8; tracing::MOST]) {
+    let mut rest = bundle;
+    while let Some((size, after)) = rest.split_first_chunk::<4>() {
+        let n = u32::from_be_bytes(*size) as usize;
+        let Some((input, left)) = after.split_at_checked(n) else {
             return;
-        }
-        let to = from + n;
-        tracing::write(&bundle[from..to], text);
-        at = to;
+        };
+        tracing::write(input, text);
+        rest = left;
     }
 }
 

@@ -1,13 +1,11 @@
 -- What the trace program writes: a line for each execution, and a last line of its own kind.
-use Rattle.std.specs.Prelude.{List, [], ◌∷◌, ◌++◌, ℕ, ◌+◌, ◌*◌, length}
+use Rattle.std.specs.Prelude.{List, [], ◌∷◌, ◌++◌, ℕ, ◌+◌, ◌*◌, length, Ok, Err}
 use Rattle.machine.specs.declared.Shown.{Shown}
 use Rattle.machine.specs.Core.{fresh_of, shown_status}
 use Rattle.machine.specs.Pins.{pins_of}
 use Rattle.reasons.specs.declared.Reason.{Reason}
 use Rattle.reasons.specs.declared.Reason.TheVariants.{Done}
-use Rattle.reasons.specs.declared.Check.{Check}
-use Rattle.reasons.specs.declared.Check.TheVariants.{Good, Bad}
-use Rattle.reasons.specs.Reasons.{number_of}
+use Rattle.reasons.specs.Reasons.{Check, number_of}
 use Rattle.text.specs.Text.{hex_of, decimal_of, binary_of}
 use Rattle.text.specs.Ascii.{space, newline}
 use Rattle.chip.specs.declared.Word.{Word}
@@ -53,8 +51,8 @@ unfoldable pub traced_of : List ℕ → List ℕ
 traced_of x = lines_of 0 (executions_of x) (entering (file_in x) fresh_of)
 
 abbrev pub text_by : Check → List ℕ → List ℕ
-text_by (Bad reason place) x = last_of reason place
-text_by Good x = traced_of x ++ last_of Done (length (executions_of x))
+text_by (Err refusal) x = last_of refusal.reason refusal.place
+text_by (Ok done) x = traced_of x ++ last_of Done (length (executions_of x))
 
 unfoldable pub text_of : List ℕ → List ℕ
 text_of x = text_by (input_of x) x

@@ -3,17 +3,17 @@
 #![tactic(auto)]
 
 ghost use Rattle.std.specs.Prelude.{◌≡◌, ◌+◌, ◌*◌, ◌≤◌, ◌<◌, length};
+ghost use Rattle.reasons.specs.Reasons.{good};
 ghost use Rattle.machine.specs.Status.{Good};
 ghost use Rattle.chip.specs.Lists.{state};
-ghost use Rattle.text.specs.Text.{hex_of};
 ghost use Rattle.sheet.specs.Sheet.{words_of, declared_of, word_at, input_of, Ready};
-ghost use Rattle.tracing.specs.Input.{size_of, register_at, registers_from};
+ghost use Rattle.tracing.specs.Input.{size_of, registers_from};
 ghost use Rattle.text.specs.Fill.{Added, Written};
 ghost use Rattle.tracing.specs.Lines.{line_of, line_length, last_of, last_length, most_length, text_of};
 ghost use Rattle.tracing.specs.Fill.{Traced, Filled};
 
 use machine::{Core, Machine, Shown};
-use reasons::{Check, Reason};
+use reasons::Reason;
 use sheet::Which;
 
 // The bytes of an execution's line, and of the last line.
@@ -26,25 +26,16 @@ pub const MOST: usize = 4095 * LINE + LAST;
 
 // ---- text
 
-// The low four hex digits of a number.
-fn four(n: usize) -> [u8; 4]
-    ensures { result ≡ hex_of 4 n }
-{
-    text::hex4((n % 65536) as u32)
-}
-
 // The line of an execution: index, Y, Q, status, pins.
 fn line(index: usize, shown: Shown) -> [u8; LINE]
     requires { Good shown.core.status }
     ensures { result ≡ line_of index shown }
 {
-    let i = four(index);
-    let y = text::hex8(shown.y);
-    let q = text::hex8(shown.core.q);
-    let s = text::hex8(shown.status());
-    let core = shown.core;
-    let status = core.status;
-    let p = text::binary5(status.pins());
+    let i = text::hex::<4>(index as u64);
+    let y = text::hex::<8>(shown.y as u64);
+    let q = text::hex::<8>(shown.core.q as u64);
+    let s = text::hex::<8>(shown.status() as u64);
+    let p = text::binary::<5>(shown.core.status.pins() as u64);
     let mut line = *b"0000 00000000 00000000 00000000 00000\n";
     text::put(&i, &mut line, 0);
     text::put(&y, &mut line, 5);
@@ -55,17 +46,20 @@ fn line(index: usize, shown: Shown) -> [u8; LINE]
 }
 
 // The last line: reason and place.
+// Kept: telling::numbers ends in a blank. Both share text's digits; one more function for the rest would be no plainer.
+#[tactic(auto, unfolding(crate::specs::Lines::last_of))]
 fn last_line(reason: Reason, place: usize) -> [u8; LAST]
     ensures { result ≡ last_of reason place }
 {
-    let n = text::decimal2(reasons::number(reason));
-    let p = four(place);
+    let n = text::decimal::<2>(reasons::number(reason) as u64);
+    let p = text::hex::<4>(place as u64);
     [n[0], n[1], b' ', p[0], p[1], p[2], p[3], b'\n']
 }
 
 // ---- the input
 
 // The bytes of the sheet that an input starts with.
+#[tactic(auto, using(crate::proofs::Input::words_few), unfolding(crate::specs::Input::size_of))]
 fn sheet_size(input: &[u8]) -> usize
     requires { 4 ≤ length input.now }
     ensures { result ≡ size_of input.now }
@@ -73,29 +67,21 @@ fn sheet_size(input: &[u8]) -> usize
     4 + 6 * sheet::words(input)
 }
 
-// The register whose four bytes start at a place.
-fn register(input: &[u8], at: usize) -> u32
-    requires { at + 4 ≤ length input.now }
-    ensures { result ≡ register_at input.now at }
-{
-    bits::four_bytes(input[at], input[at + 1], input[at + 2], input[at + 3])
-}
-
 // The registers that start at a place, into the whole file.
+#[tactic(auto, using(crate::proofs::Input::loaded))]
 fn load(input: &[u8], at: usize, file: &mut [u32])
     requires { at + 4 * length file.old ≤ length input.now }
     ensures { file.new ≡ registers_from input.now at 0 (length file.old) }
 {
-    let mut k: usize = 0;
-    while k < file.len() {
-        file[k] = register(input, at + 4 * k);
-        k += 1;
+    for (k, register) in file.iter_mut().enumerate() {
+        *register = bits::four_bytes_at(input, at + 4 * k);
     }
 }
 
 // ---- a run, shown
 
 // The last line into a text at a place; where the text ends.
+#[tactic(auto, using(crate::proofs::Lines::last_length_is))]
 fn put_last(text: &mut [u8], at: usize, reason: Reason, place: usize) -> usize
     requires { at + last_length ≤ length text.old }
     ensures { Added (last_of reason place) at text.old result text.new }
@@ -105,16 +91,16 @@ fn put_last(text: &mut [u8], at: usize, reason: Reason, place: usize) -> usize
 }
 
 // Execution `index` of a sheet, run, and its line in its place. The sheet was checked once: this checks nothing again.
+#[tactic(auto, using(crate::proofs::Lines::line_length_is, crate::proofs::Lines::traced_is))]
 fn trace_word(sheet: &[u8], index: usize, file: &mut [u32], core: Core, text: &mut [u8]) -> Core
     requires ready { Ready sheet.now (length file.old) × (index < words_of sheet.now) × Good core.status }
     requires line_length_in_bounds { line_length * index + line_length ≤ length text.old }
     ensures { Traced (word_at sheet.now index) index (state file.old core) text.old (state file.new result) text.new }
 {
     let shown = run::step_at(sheet, sheet, Which::Main, index, file, core);
-    let after = shown.core;
     let line = line(index, shown);
     text::put(&line, text, LINE * index);
-    after
+    shown.core
 }
 
 // The lines of a sheet's executions, from the first to the last on a fresh machine, at the start of a text; how many bytes they take.
@@ -124,17 +110,16 @@ fn fill(sheet: &[u8], file: &mut [u32], text: &mut [u8]) -> usize
 {
     let n = sheet::executions(sheet);
     let mut core = Machine::fresh().enter();
-    let mut index: usize = 0;
-    while index < n {
+    for index in 0..n {
         core = trace_word(sheet, index, file, core, text);
-        index += 1;
     }
-    LINE * index
+    LINE * n
 }
 
 // The text of an input that was checked, on a file that has room for its registers.
+#[tactic(auto, using(crate::proofs::Input::input_ready, crate::proofs::Input::input_room, crate::proofs::Input::words_few))]
 fn trace_run(input: &[u8], file: &mut [u32], text: &mut [u8]) -> usize
-    requires { (input_of input.now ≡ Check.Good) × (length file.old ≡ declared_of input.now) × (most_length ≤ length text.old) }
+    requires { (input_of input.now ≡ good) × (length file.old ≡ declared_of input.now) × (most_length ≤ length text.old) }
     ensures { Written (text_of input.now) text.old result text.new }
 {
     load(input, sheet_size(input), file);
@@ -144,17 +129,18 @@ fn trace_run(input: &[u8], file: &mut [u32], text: &mut [u8]) -> usize
 
 // The trace of an input: all of its text at the start of a lent buffer, which has room for the longest; how many bytes it has. Bytes past them
 // stay.
+// Kept: a slice, and no array of MOST bytes, which would ask for exactly that length of a caller.
+#[tactic(auto, using(crate::proofs::Input::input_ready, crate::proofs::Input::room))]
 pub fn trace(input: &[u8], text: &mut [u8]) -> usize
     requires { most_length ≤ length text.old }
     ensures { Written (text_of input.now) text.old result text.new }
 {
-    let check = sheet::check_input(input);
-    if let Check::Bad { reason, place } = check {
-        return put_last(text, 0, reason, place);
+    if let Err(refusal) = sheet::check_input(input) {
+        return put_last(text, 0, refusal.reason, refusal.place);
     }
     let registers = sheet::declared(input);
     let mut file = [0u32; 64];
-    trace_run(input, &mut file[0..registers], text)
+    trace_run(input, &mut file[..registers], text)
 }
 
 // That text, written to standard output.

@@ -2,14 +2,13 @@
 // many the proved one misses and where the first miss is.
 #![tactic(auto)]
 
-ghost use Rattle.std.specs.Prelude.{◌≡◌, length};
-
 use chip::{SingleAnswer, SingleWord};
-use lines::{Tally, number_at};
+use lines::number_at;
 
-fn case(line: &[u8]) -> SingleWord
-    requires { length line.now ≡ 96 }
-{
+// A line, with its line feed.
+type Line = [u8; 96];
+
+fn case(line: &Line) -> SingleWord {
     SingleWord {
         opcode: number_at(line, 0, 2),
         code: number_at(line, 3, 2),
@@ -26,61 +25,25 @@ fn case(line: &[u8]) -> SingleWord
     }
 }
 
-// Whether an answer leaves the chip as the line has it: Q, status and pins.
-fn same_after(line: &[u8], answer: SingleAnswer) -> bool
-    requires { length line.now ≡ 96 }
-{
-    if answer.q != number_at(line, 75, 8) {
-        return false;
-    }
-    if answer.status != number_at(line, 84, 8) {
-        return false;
-    }
-    answer.pins == number_at(line, 93, 2)
-}
-
 // Whether an answer is the one that the line has.
-fn same(line: &[u8], answer: SingleAnswer) -> bool
-    requires { length line.now ≡ 96 }
-{
-    let reason = answer.reason;
-    if reasons::number(reason) != number_at(line, 60, 2) {
-        return false;
-    }
-    if answer.place != 0 {
-        return false;
-    }
-    if answer.parity != number_at(line, 63, 2) {
-        return false;
-    }
-    if answer.y != number_at(line, 66, 8) {
-        return false;
-    }
-    same_after(line, answer)
+fn same(line: &Line, answer: SingleAnswer) -> bool {
+    let outcome = reasons::numbered_check(answer.check);
+    outcome.reason == number_at(line, 60, 2)
+        && outcome.place == 0
+        && answer.parity == number_at(line, 63, 2)
+        && answer.y == number_at(line, 66, 8)
+        && answer.q == number_at(line, 75, 8)
+        && answer.status == number_at(line, 84, 8)
+        && answer.pins == number_at(line, 93, 2)
 }
 
-fn right(line: &[u8]) -> bool
-    requires { length line.now ≡ 96 }
-{
+fn right(line: &Line) -> bool {
     same(line, chip::single_word(case(line)))
 }
 
-fn all() -> Tally {
-    let mut tally = Tally {
-        cases: 0,
-        missed: 0,
-        first: 0,
-    };
-    let mut line = [0u8; 96];
-    while tally.cases < lines::MOST {
-        if !lines::read(&mut line) {
-            return tally;
-        }
-        tally = lines::counted(tally, right(&line));
-    }
-    tally
-}
-
 fn main() {
-    lines::print_tally(all());
+    let tally = lines::tallied(&mut [0; 96], |line| {
+        <&Line>::try_from(line).is_ok_and(right)
+    });
+    lines::print_tally(tally);
 }

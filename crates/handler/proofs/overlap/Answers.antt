@@ -10,15 +10,13 @@ use Rattle.handler.proofs.overlap.Goals as goal
 
 pub returns-then-meet : goal.returns-then-meet
 unfolding overlap_of
-returns-then-meet c = let n = c in
-    let a = n.args in
-    let theirs = n.names_in-theirs.ensures ∙ ap (λ (k : ℕ). names_all (words_from a.h.now 0 k)) n.words.ensures in
+returns-then-meet c = let a = c.args in
+    let theirs = c.names_in-theirs.ensures ∙ ap (λ (k : ℕ). names_all (words_from a.h.now 0 k)) c.words.ensures in
     c.first_sharing.ensures
-    ∙ ap₂ (λ (m t : ℕ). first_of (rows_by (overlap_row a.main.now t) 0 m)) n.words-m.ensures theirs
+    ∙ ap₂ (λ (m t : ℕ). first_of (rows_by (overlap_row a.main.now t) 0 m)) c.words-m.ensures theirs
 
 pub returns : goal.returns
-returns c = let n = c in
-    let a = n.args in
-    let theirs = n.names_in-theirs.ensures ∙ ap (λ (k : ℕ). names_all (words_from a.h.now 0 k)) n.words.ensures in
-    let ours = c.names_in.ensures ∙ ap (λ (k : ℕ). names_all (words_from a.main.now 0 k)) n.words-m.ensures in
+returns c = let a = c.args in
+    let theirs = c.names_in-theirs.ensures ∙ ap (λ (k : ℕ). names_all (words_from a.h.now 0 k)) c.words.ensures in
+    let ours = c.names_in.ensures ∙ ap (λ (k : ℕ). names_all (words_from a.main.now 0 k)) c.words-m.ensures in
     apart_good a.main.now a.h.now (sym (c.meet.ensures ∙ ap₂ common ours theirs) ∙ c.if-meet.false)

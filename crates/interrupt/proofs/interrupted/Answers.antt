@@ -7,19 +7,18 @@ use Rattle.interrupt.proofs.Demand3.{promised}
 use Rattle.interrupt.proofs.Verdicts.{interrupted-refused, interrupted_done, serve_ready}
 use Rattle.interrupt.proofs.interrupted.Goals as goal
 
-pub returns-in-Refused : goal.returns-in-Refused
-returns-in-Refused c =
-    let p = let j = c in
-    let z = j in
-    let a = z.args in
-    promised a.main.now a.handler.now a.schedule.now a.file.now a.machine (read_small a.file.now (λ r. (j.slice_known-1.given r).fits)) (omega arith) _ _
-    (interrupted-refused a.main.now a.handler.now a.schedule.now a.file.now a.machine _ _ _ (sym j.judge-verdict.ensures ∙ c.in-Refused.is)) in
+pub returns-in-Err : goal.returns-in-Err
+returns-in-Err c =
+    let a = c.args in
+    let p =
+    promised a.main.now a.handler.now a.schedule.now a.file.now a.machine (read_small a.file.now (λ r. (c.slice_known-1.given r).fits)) (omega arith) _ _
+    (interrupted-refused a.main.now a.handler.now a.schedule.now a.file.now a.machine _ (sym c.judge.ensures ∙ c.in-Err.is)) in
     record { file_after = p.0; numbers = p.1.0; no_trace = p.1.1 }
 
 pub serve-last-requires : goal.serve-last-requires
-serve-last-requires c = let j = c in
-    let a = j.args in
-    let p = serve_ready a.main.now a.handler.now a.schedule.now (length a.file.now) a.machine _ (sym j.judge-verdict.ensures ∙ c.in_default.is) c.enter.ensures in
+serve-last-requires c =
+    let a = c.args in
+    let p = serve_ready a.main.now a.handler.now a.schedule.now (length a.file.now) a.machine _ (sym c.judge.ensures ∙ c.in_default.is) c.enter.ensures in
     record { ready = p.0; rising = p.1 }
 
 pub leave-requires : goal.leave-requires
@@ -27,11 +26,9 @@ leave-requires c = c.serve-last.ensures.status
 
 pub returns : goal.returns
 returns c =
-    let p = let s = c in
-    let j = s in
-    let z = j in
-    let a = z.args in
-    promised a.main.now a.handler.now a.schedule.now a.file.now a.machine (read_small a.file.now (λ r. (j.slice_known-1.given r).fits)) (omega arith) _ _
+    let a = c.args in
+    let p =
+    promised a.main.now a.handler.now a.schedule.now a.file.now a.machine (read_small a.file.now (λ r. (c.slice_known-1.given r).fits)) (omega arith) _ _
     (interrupted_done a.main.now a.handler.now a.schedule.now a.file.now a.machine _ _ _ _
-    (sym j.judge-verdict.ensures ∙ c.in_default.is) s.enter.ensures s.serve-last.ensures c.leave.ensures) in
+    (sym c.judge.ensures ∙ c.in_default.is) c.enter.ensures c.serve-last.ensures c.leave.ensures) in
     record { file_after = p.0; numbers = p.1.0; no_trace = p.1.1 }

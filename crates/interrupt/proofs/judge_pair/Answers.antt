@@ -1,23 +1,28 @@
--- Each return is the first of the three checks that is not good.
-use mathlib.Core.Path.{sym, ◌∙◌}
+-- Each return is the first of the three checks that refuses.
+use mathlib.Core.Path.{sym, ap, ◌∙◌}
+use Rattle.reasons.specs.Reasons.{Check}
+use Rattle.reasons.proofs.Rows.{passed_on}
+use Rattle.interrupt.specs.Interrupt.{in_main, in_handler, marking, fine}
 use Rattle.interrupt.proofs.Verdicts.{pair_form, pair_overlap, pair_schedule}
 use Rattle.interrupt.proofs.judge_pair.Goals as goal
 
-pub returns-in-Bad : goal.returns-in-Bad
-returns-in-Bad c = let f = c in
-    let a = f.args in
-    pair_form a.main.now a.handler.now a.schedule.now _ _ (sym f.form-form.ensures ∙ c.in-Bad.is)
+pub returns-in_err-marked : goal.returns-in_err-marked
+returns-in_err-marked c = let a = c.args in
+    passed_on _ _ c.from_residual.ensures.1
+    ∙ pair_form a.main.now a.handler.now a.schedule.now
+    (ap (λ (x : Check). marking in_handler x fine) (sym c.form.ensures) ∙ sym c.marked.ensures ∙ c.in_err-marked.was)
 
-pub returns-in-Bad-overlap : goal.returns-in-Bad-overlap
-returns-in-Bad-overlap c = let o = c in
-    let f = o in
-    let a = f.args in
-    pair_overlap a.main.now a.handler.now a.schedule.now _ _ (sym f.form-form.ensures ∙ c.in_default.is) (sym o.overlap-overlap.ensures ∙ c.in-Bad-overlap.is)
+pub returns-in_err-marked-2 : goal.returns-in_err-marked-2
+returns-in_err-marked-2 c = let a = c.args in
+    passed_on _ _ c.from_residual-in_err-marked-2.ensures.1
+    ∙ pair_overlap a.main.now a.handler.now a.schedule.now
+    (ap (λ (x : Check). marking in_handler x fine) (sym c.form.ensures) ∙ sym c.marked.ensures ∙ c.in_ok-marked.was)
+    (ap (λ (x : Check). marking in_main x fine) (sym c.overlap.ensures) ∙ sym c.marked-2.ensures ∙ c.in_err-marked-2.was)
 
 pub returns : goal.returns
-returns c = let o = c in
-    let f = o in
-    let a = f.args in
-    c.then.ensures
-    ∙ pair_schedule a.main.now a.handler.now a.schedule.now _ _ (sym f.form-form.ensures ∙ c.in_default.is) (sym o.overlap-overlap.ensures ∙ c.in_default-overlap.is)
-    c.executions.ensures c.check_schedule.ensures
+returns c = let a = c.args in
+    c.marked-3.ensures
+    ∙ pair_schedule a.main.now a.handler.now a.schedule.now _ _
+    (ap (λ (x : Check). marking in_handler x fine) (sym c.form.ensures) ∙ sym c.marked.ensures ∙ c.in_ok-marked.was)
+    (ap (λ (x : Check). marking in_main x fine) (sym c.overlap.ensures) ∙ sym c.marked-2.ensures ∙ c.in_ok-marked-2.was)
+    c.executions-executions.ensures c.check_schedule.ensures

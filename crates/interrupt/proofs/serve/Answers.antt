@@ -1,6 +1,6 @@
--- What is left, run and counted from here, ends as the whole does from its start (`Serving`). The measure is the entries left.
+-- What is left, run and counted from here, ends as the whole does from its start (`Serving`).
 use mathlib.Core.Path.{refl, ◌∙◌}
-use Prim.Native.Nat.{◌≤◌}
+use Prim.Native.Nat.{◌≤◌, ◌<◌}
 use lib.ListN.{length, drop}
 use native.Mathlib.Omega.{arith}
 use Rattle.sheet.specs.Sheet.{executions_of}
@@ -12,35 +12,32 @@ pub executions-n-requires : goal.executions-n-requires
 executions-n-requires c = c.requires.ready.1.long
 
 pub loop-j-init : goal.loop-j-init
-loop-j-init c = let z = c in
-    record { size = refl; upto = omega arith; rising = z.requires.rising.0; status = z.requires.ready.2; state = refl; count = refl }
+loop-j-init c = record { size = refl; upto = omega arith; rising = c.requires.rising.0; status = c.requires.ready.2; state = refl; count = refl }
 
 pub boundary-b-requires : goal.boundary-b-requires
-boundary-b-requires c = c.loop-j-test.true
+boundary-b-requires c = (omega arith)
 
 pub turn-on-requires : goal.turn-on-requires
-turn-on-requires c = let z = c in
-    let a = z.args in
+turn-on-requires c = let a = c.args in
     let l = c.loop-j in
-    let i = c.loop-j-test.true in
+    let i : l.j < length a.schedule.now = omega arith in
     let e = c.boundary-b.ensures in
-    let r = rising_next (length (executions_of a.main.now)) l.at a.schedule.now l.j _ i e l.invariant.rising in record { ready = (ready_size a.main.now l.invariant.size z.requires.ready.0, ready_size a.handler.now l.invariant.size z.requires.ready.1, l.invariant.status); at_le_b = (r.0, rising_le _ _ _ r.1, c.executions-n.ensures); handler_bound = turn-room l.invariant _ i e z.requires.rising.1 }
+    let r = rising_next (length (executions_of a.main.now)) l.at a.schedule.now l.j _ i e l.invariant.rising in record { ready = (ready_size a.main.now l.invariant.size c.requires.ready.0, ready_size a.handler.now l.invariant.size c.requires.ready.1, l.invariant.status); at_le_b = (r.0, rising_le _ _ _ r.1, c.executions-n.ensures); handler_bound = turn-room l.invariant _ i e c.requires.rising.1 }
 
 pub loop-j-preserved : goal.loop-j-preserved
-loop-j-preserved c = serving_more c.loop-j.invariant _ c.loop-j-test.true c.boundary-b.ensures _ _ c.turn-on.auto.file c.turn-on.ensures
+loop-j-preserved c = serving_more c.loop-j.invariant _ (omega arith) c.boundary-b.ensures _ _ c.turn-on.auto.file c.turn-on.ensures
 
 pub executions-end-requires : goal.executions-end-requires
 executions-end-requires c = c.requires.ready.0.long
 
 pub span-requires : goal.span-requires
-span-requires c = let z = c in
-    let a = z.args in
+span-requires c = let a = c.args in
     let l = c.loop-j in
     let n = c.executions-end.ensures in
-    let i : l.at ≤ length (executions_of a.main.now) = rising_le _ _ (drop l.j a.schedule.now) l.invariant.rising in record { ready = (ready_size a.main.now l.invariant.size z.requires.ready.0, l.invariant.status); from_le_to = (omega (arith, n), omega (arith, n), omega (arith, n, last-room l.invariant c.loop-j-test.false z.requires.rising.1)) }
+    let i : l.at ≤ length (executions_of a.main.now) = rising_le _ _ (drop l.j a.schedule.now) l.invariant.rising in record { ready = (ready_size a.main.now l.invariant.size c.requires.ready.0, l.invariant.status); from_le_to = (omega (arith, n), omega (arith, n), omega (arith, n, last-room l.invariant (omega arith) c.requires.rising.1)) }
 
 pub shape_of-file : goal.shape_of-file
 shape_of-file c = c.span.auto.file ∙ c.loop-j.invariant.size
 
 pub returns : goal.returns
-returns c = serving_done c.loop-j.invariant c.loop-j-test.false _ _ _ c.executions-end.ensures c.span.ensures
+returns c = serving_done c.loop-j.invariant (omega arith) _ _ _ c.executions-end.ensures c.span.ensures

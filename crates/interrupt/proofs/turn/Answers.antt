@@ -7,16 +7,13 @@ use Rattle.interrupt.proofs.Serving.{ready_size, turn_done}
 use Rattle.interrupt.proofs.turn.Goals as goal
 
 pub span-first-requires : goal.span-first-requires
-span-first-requires c = let z = c in
-    let a = z.args in
-    let part = between a.at a.b (executions_of a.main.now) in record { ready = (z.requires.ready.0, z.requires.ready.2); from_le_to = (z.requires.at_le_b.0, z.requires.at_le_b.1, omega (arith, z.requires.handler_bound, length-append part (executions_of a.handler.now), between-length (executions_of a.main.now) a.at a.b z.requires.at_le_b.1)) }
+span-first-requires c = let a = c.args in
+    let part = between a.at a.b (executions_of a.main.now) in record { ready = (c.requires.ready.0, c.requires.ready.2); from_le_to = (c.requires.at_le_b.0, c.requires.at_le_b.1, omega (arith, c.requires.handler_bound, length-append part (executions_of a.handler.now), between-length (executions_of a.main.now) a.at a.b c.requires.at_le_b.1)) }
 
 pub span-requires : goal.span-requires
-span-requires c = let z = c in
-    let a = z.args in
+span-requires c = let a = c.args in
     let s = c.span-first in
-    let part = between a.at a.b (executions_of a.main.now) in record { ready = (ready_size a.handler.now s.auto.file z.requires.ready.1, s.ensures.status); from_le_to = (omega arith, omega (arith, z.requires.at_le_b.2), omega (arith, z.requires.at_le_b.2, z.requires.handler_bound, s.ensures.count, length-append part (executions_of a.handler.now))) }
+    let part = between a.at a.b (executions_of a.main.now) in record { ready = (ready_size a.handler.now s.auto.file c.requires.ready.1, s.ensures.status); from_le_to = (omega arith, omega (arith, c.requires.at_le_b.2), omega (arith, c.requires.at_le_b.2, c.requires.handler_bound, s.ensures.count, length-append part (executions_of a.handler.now))) }
 
 pub returns : goal.returns
-returns c = let z = c in
-    turn_done (executions_of z.args.handler.now) _ z.args.n z.requires.at_le_b.2 c.span-first.ensures c.span.ensures
+returns c = turn_done (executions_of c.args.handler.now) _ c.args.n c.requires.at_le_b.2 c.span-first.ensures c.span.ensures

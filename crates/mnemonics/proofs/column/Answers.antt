@@ -8,4 +8,4 @@ use Rattle.mnemonics.proofs.column.Goals as goal
 
 pub returns : goal.returns
 returns c = let n = c.args.opcode in
-    ap (λ (l : List (List ℕ)). get_or l n []) c.table-all.ensures ∙ column-at n c.requires
+    ap (λ (l : List (List ℕ)). get_or l n []) c.table.ensures ∙ column-at n c.requires

@@ -4,4 +4,4 @@ use Rattle.movement.proofs.pass_q.Goals as goal
 
 pub returns : goal.returns
 unfolding PASS-Q
-returns c = rw (c.merge.ensures, c.bits-n.ensures.0)
+returns c = c.pass.ensures

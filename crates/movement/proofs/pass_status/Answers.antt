@@ -4,4 +4,4 @@ use Rattle.movement.proofs.pass_status.Goals as goal
 
 pub returns : goal.returns
 unfolding PASS-STAT
-returns c = rw (c.merge.ensures, c.read.ensures, c.bits-n.ensures.0)
+returns c = rw c.read.ensures at c.pass.ensures

@@ -14,7 +14,7 @@ use Rattle.packing.proofs.pack.Goals as goal
 pub returns-in_err-refuse_if : goal.returns-in_err-refuse_if
 returns-in_err-refuse_if c =
     let p = pack-numbers c.args.w c.args.d.now _ _
-    (rw (passed_on _ _ c.from_residual.ensures.1, c.in_err-refuse_if.ensures.held.1) (pack-opcode c.args.w c.args.d.now  (sym c.lacks_page.ensures ∙ c.in_err-refuse_if.ensures.held.0))) in
+    (rw (passed_on _ _ c.from_residual.ensures.1, c.in_err-refuse_if.ensures.held.1) (pack-opcode c.args.w c.args.d.now (sym c.lacks_page.ensures ∙ c.in_err-refuse_if.ensures.held.0))) in
     record { d_after = p.0; numbers = p.1 }
 
 pub returns-in_err-refuse_if-2 : goal.returns-in_err-refuse_if-2

@@ -1,9 +1,6 @@
--- The pairs left fall, and no count is above the pairs tried.
-use Rattle.std.proofs.Common.{◌-◌, ◌≤◌}
+-- No count is above the pairs tried.
+use Rattle.std.proofs.Common.{◌≤◌}
 use Rattle.pairs.proofs.tallied.Given as goal
 
-abbrev pub invariant-loop-pair : goal.invariant-loop-pair
-invariant-loop-pair l = (l.tally.right ≤ l.pair) × (l.tally.wrong ≤ l.pair) × (l.tally.odd ≤ l.pair)
-
-abbrev pub decreases-loop-pair : goal.decreases-loop-pair
-decreases-loop-pair l = l.pairs - l.pair
+abbrev pub invariant-loop-n : goal.invariant-loop-n
+invariant-loop-n g l = (l.tally.right ≤ l.n) × (l.tally.wrong ≤ l.n) × (l.tally.odd ≤ l.n)

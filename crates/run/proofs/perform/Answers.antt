@@ -5,13 +5,11 @@ use Rattle.run.proofs.Stepping.{performed-write, performed_keep}
 use Rattle.run.proofs.perform.Goals as goal
 
 pub returns-then-word-ne0 : goal.returns-then-word-ne0
-returns-then-word-ne0 c = let s = c in
-    let a = s.args in
+returns-then-word-ne0 c = let a = c.args in
     performed-write a.word a.file.now a.machine _
-    (s.single_word-single.ensures.value ∙ ap single_of s.at_chip.ensures) c.if-word-ne0.true
+    (c.single_word-single.ensures.value ∙ ap single_of c.at_chip.ensures) c.if-word-ne0.true
 
 pub returns : goal.returns
-returns c = let s = c in
-    let a = s.args in
+returns c = let a = c.args in
     performed_keep a.word a.file.now a.machine _
-    (s.single_word-single.ensures.value ∙ ap single_of s.at_chip.ensures) c.if-word-ne0.false
+    (c.single_word-single.ensures.value ∙ ap single_of c.at_chip.ensures) c.if-word-ne0.false

@@ -6,50 +6,40 @@ use Rattle.machine.specs.declared.Core.{Core}
 use Rattle.machine.specs.Status.{Good}
 use Rattle.machine.proofs.Handed.{taken_good}
 use Rattle.chip.proofs.Files.{read_small}
-use Rattle.sheet.specs.declared.Given.TheVariants.{Number}
+use Rattle.std.proofs.Common.{Some, Ok}
 use Rattle.sheet.proofs.Table.{ready, start_within}
 use Rattle.run.proofs.Parts.{run-refused, run_is, went_ran, went_list, executed_is, promised}
 use Rattle.run.proofs.run.Goals as goal
 
-pub returns-in-Bad : goal.returns-in-Bad
-returns-in-Bad c =
-    let p = let k = c in
-    let z = k in
-    let a = z.args in
-    promised a.sheet.now a.file.now a.machine a.start a.allowance (read_small a.file.now (λ r. (k.slice_known-1.given r).fits)) (omega (arith, z.well_formed.1.1.0)) _ _
-    (run-refused a.sheet.now a.file.now a.machine a.start a.allowance _ _ (sym k.check_start-check.ensures.value ∙ c.in-Bad.is)) in
+pub returns-in-Err : goal.returns-in-Err
+returns-in-Err c =
+    let p = let a = c.args in
+    promised a.sheet.now a.file.now a.machine a.start a.allowance (read_small a.file.now (λ r. (c.slice_known-1.given r).fits)) (omega (arith, c.well_formed.1.1.0)) _ _
+    (run-refused a.sheet.now a.file.now a.machine a.start a.allowance _ (sym c.check_start.ensures.value ∙ c.in-Err.is)) in
     record { file_after = p.0; numbers = p.1.0; in_parts = p.1.1 }
 
 pub executions-requires : goal.executions-requires
-executions-requires c = let k = c in
-    let a = k.args in
-    (ready a.sheet.now (length a.file.now) (Number a.start) (sym k.check_start-check.ensures.value ∙ c.in_default.is)).long
+executions-requires c = let a = c.args in
+    (ready a.sheet.now (length a.file.now) (Some a.start) (sym c.check_start.ensures.value ∙ c.in_default.is)).long
 
 pub overflow_sub-executions : goal.overflow_sub-executions
-overflow_sub-executions c = let k = c in
-    let a = k.args in
-    omega (arith, c.executions.ensures, start_within a.sheet.now (Number (length a.file.now)) a.start (sym k.check_start-check.ensures.value ∙ c.in_default.is))
+overflow_sub-executions c = let a = c.args in
+    omega (arith, c.executions.ensures, start_within a.sheet.now (Some (length a.file.now)) a.start (sym c.check_start.ensures.value ∙ c.in_default.is))
 
 pub span-last-requires : goal.span-last-requires
-span-last-requires c = let e = c in
-    let k = e in
-    let a = k.args in
-    let passed = sym k.check_start-check.ensures.value ∙ c.in_default.is in
-    let h = start_within a.sheet.now (Number (length a.file.now)) a.start passed in record { ready = (ready a.sheet.now (length a.file.now) (Number a.start) passed, subst (λ (x : Core). Good x.status) (sym c.enter.ensures) (taken_good a.machine)); from_le_to = (omega arith, omega (arith, e.executions.ensures, c.least-count.ensures), omega (arith, c.least-count.type_inv)) }
+span-last-requires c = let a = c.args in
+    let passed = sym c.check_start.ensures.value ∙ c.in_default.is in
+    let h = start_within a.sheet.now (Some (length a.file.now)) a.start passed in record { ready = (ready a.sheet.now (length a.file.now) (Some a.start) passed, subst (λ (x : Core). Good x.status) (sym c.enter.ensures) (taken_good a.machine)); from_le_to = (omega arith, omega (arith, c.executions.ensures, c.min-count.ensures), omega (arith, c.min-count.type_inv)) }
 
 pub leave-requires : goal.leave-requires
 leave-requires c = c.span-last.ensures.status
 
 pub returns : goal.returns
 returns c =
-    let p = let n = c in
-    let e = n in
-    let k = e in
-    let z = k in
-    let a = z.args in
+    let p = let a = c.args in
     let s = a.sheet.now in
-    promised s a.file.now a.machine a.start a.allowance (read_small a.file.now (λ r. (k.slice_known-1.given r).fits)) (omega (arith, z.well_formed.1.1.0)) _ _
-    (went_ran _ a.file.now a.machine _ _ _ _ n.enter.ensures
-    (went_list (executed_is s a.start a.allowance _ _ e.executions.ensures n.least-count.ensures) n.span-last.ensures) c.leave.ensures
-    ∙ sym (run_is s a.file.now a.machine a.start a.allowance (sym k.check_start-check.ensures.value ∙ c.in_default.is))) in
+    promised s a.file.now a.machine a.start a.allowance (read_small a.file.now (λ r. (c.slice_known-1.given r).fits)) (omega (arith, c.well_formed.1.1.0)) _ _
+    (went_ran _ a.file.now a.machine _ _ _ _ c.enter.ensures
+    (went_list (executed_is s a.start a.allowance _ _ c.executions.ensures c.min-count.ensures) c.span-last.ensures) c.leave.ensures
+    ∙ sym (run_is s a.file.now a.machine a.start a.allowance (sym c.check_start.ensures.value ∙ c.in_default.is))) in
     record { file_after = p.0; numbers = p.1.0; in_parts = p.1.1 }

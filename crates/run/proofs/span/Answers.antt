@@ -1,4 +1,4 @@
--- What is left, run and counted from here, ends as the whole does from its start (`Running`). The measure is the executions left.
+-- What is left, run and counted from here, ends as the whole does from its start (`Running`).
 use mathlib.Core.Path.{sym, subst}
 use native.Mathlib.Omega.{arith}
 use Rattle.sheet.specs.Sheet.{sheet_of, Ready}
@@ -7,18 +7,17 @@ use Rattle.run.proofs.Laws.{running_start, running_more, running_done}
 use Rattle.run.proofs.span.Goals as goal
 
 pub loop-index-init : goal.loop-index-init
-loop-index-init c = let z = c in running_start _ _ z.args.going _ _ z.requires.from_le_to.0 z.requires.ready.1
+loop-index-init c = running_start _ _ c.args.going _ _ c.requires.from_le_to.0 c.requires.ready.1
 
 pub advance-at-requires : goal.advance-at-requires
-advance-at-requires c = let z = c in
-    let s = sheet_of z.args.of z.args.main.now z.args.handler.now in
-    let l = c.loop-index in record { ready = (subst (Ready s) (sym l.invariant.size) z.requires.ready.0, l.invariant.status); index_bound = (omega (arith, z.requires.from_le_to.1, executions-length s), omega (arith, l.invariant.count, z.requires.from_le_to.2)) }
+advance-at-requires c = let s = sheet_of c.args.of c.args.main.now c.args.handler.now in
+    let l = c.loop-index in record { ready = (subst (Ready s) (sym l.invariant.size) c.requires.ready.0, l.invariant.status); index_bound = (omega (arith, c.requires.from_le_to.1, executions-length s), omega (arith, l.invariant.count, c.requires.from_le_to.2)) }
 
 pub loop-index-preserved : goal.loop-index-preserved
-loop-index-preserved c = running_more c.requires.from_le_to.1 c.loop-index.invariant _ _ c.loop-index-test.true c.advance-at.auto.file c.advance-at.ensures
+loop-index-preserved c = running_more c.requires.from_le_to.1 c.loop-index.invariant _ _ (omega arith) c.advance-at.auto.file c.advance-at.ensures
 
 pub shape_of-file : goal.shape_of-file
 shape_of-file c = c.loop-index.invariant.size
 
 pub returns : goal.returns
-returns c = running_done c.requires.from_le_to.1 c.loop-index.invariant c.loop-index-test.false
+returns c = running_done c.requires.from_le_to.1 c.loop-index.invariant (omega arith)

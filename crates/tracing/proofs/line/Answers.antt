@@ -3,17 +3,6 @@ use Rattle.tracing.proofs.Lines.{line_is}
 use Rattle.tracing.proofs.line.Goals as goal
 
 pub returns : goal.returns
-returns c = let w₅ = c in
-    let w₄ = w₅ in
-    let w₃ = w₄ in
-    let w₂ = w₃ in
-    let w₁ = w₂ in
-    let p = w₁ in
-    let s = p in
-    let q = s in
-    let y = q in
-    let i = y in
-    let a = i.args in
-    line_is a.index a.shown s.status.ensures p.pins.ensures i.four-i.ensures y.hex8-y.ensures q.hex8-q.ensures
-    s.hex8-s.ensures p.binary5-p.ensures w₁.put.ensures.put w₂.put-2.ensures.put w₃.put-3.ensures.put w₄.put-4.ensures.put
-    w₅.put-5.ensures.put
+returns c = let a = c.args in
+    line_is a.index a.shown c.status.ensures c.pins.ensures c.hex-i.ensures c.hex-y.ensures c.hex-q.ensures c.hex-s.ensures c.binary-p.ensures
+    c.put.ensures.put c.put-2.ensures.put c.put-3.ensures.put c.put-4.ensures.put c.put-5.ensures.put

@@ -1,11 +1,7 @@
--- The loop's invariant: the registers before `k` are loaded. The measure is what is left of the file.
-use Prim.Native.Nat.{◌-◌}
-use lib.ListN.{length}
-use Rattle.tracing.proofs.Input.{Loading}
+-- The registers before `k` are loaded.
+use Rattle.std.proofs.Common.{◌≡◌, ℕ, ◌+◌, ◌*◌, ◌<◌, get_or}
+use Rattle.bits.specs.Bits.{bytes4_at}
 use Rattle.tracing.proofs.load.Given as goal
 
 abbrev pub invariant-loop-k : goal.invariant-loop-k
-invariant-loop-k l = Loading l.input l.at l.initial.file l.file l.k
-
-abbrev pub decreases-loop-k : goal.decreases-loop-k
-decreases-loop-k l = length l.initial.file - l.k
+invariant-loop-k l = (j : ℕ) → j < l.k → get_or l.file j 0 ≡ bytes4_at l.input (l.at + 4 * j)

@@ -38,6 +38,6 @@ every zero n v c z hn hv hc hz = right n v c hn hv hc 0 z (lit< tt) hz
 every (suc k) n v c z hn hv hc hz = right n v c hn hv hc 1 z (lit< tt) hz
 
 pub returns : goal.returns
-returns c = let z = c in
-    let s = z.args.self in
-    rw c.turn-turned.ensures (every z.args.borrow s.n s.v s.c s.z z.requires.n z.requires.v z.requires.c z.requires.z)
+returns c = let s = c.args.self in
+    let g = c.requires in
+    rw c.turn-turned.ensures (every c.args.borrow s.n s.v s.c s.z g.n g.v g.c g.z)
