@@ -15,14 +15,6 @@ use Rattle.mnemonics.proofs.Columns.{column-length}
 use Rattle.listing.specs.Lines.{named, numbers_of, switches_of, word_line, first_line, ended, word_lines, listing_of}
 
 -- ---- one switch
-pub named-off : (on : ℕ) (name : List ℕ) → on ≡ 0 → named on name ≡ []
-named-off zero name e = refl
-named-off (suc n) name e = absurd (omega arith)
-
-pub named_on : (on : ℕ) (name : List ℕ) → (on ≡ 0 → ⊥) → named on name ≡ name
-named_on zero name e = absurd (e refl)
-named_on (suc n) name e = refl
-
 named-length : (on : ℕ) (name : List ℕ) → on < 2 → length (named on name) ≡ on * length name
 named-length zero name h = omega arith
 named-length (suc zero) name h = omega arith

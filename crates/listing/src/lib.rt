@@ -28,24 +28,13 @@ const FIRST: usize = 23;
 fn numbers(w: Word) -> [u8; NUMBERS]
     ensures { result ≡ numbers_of w }
 {
-    let code = text::decimal::<1>(w.code as u64);
-    let position = text::decimal::<2>(w.position as u64);
-    let width = text::decimal::<2>(w.width as u64);
-    let a = text::decimal::<2>(w.a as u64);
-    let b = text::decimal::<2>(w.b as u64);
-    let y = text::decimal::<2>(w.y as u64);
     let mut line = *b"code=0 position=00 width=00 A=00 B=00 Y=00";
-    line[5] = code[0];
-    line[16] = position[0];
-    line[17] = position[1];
-    line[25] = width[0];
-    line[26] = width[1];
-    line[30] = a[0];
-    line[31] = a[1];
-    line[35] = b[0];
-    line[36] = b[1];
-    line[40] = y[0];
-    line[41] = y[1];
+    text::put(&text::decimal::<1>(w.code as u64), &mut line, 5);
+    text::put(&text::decimal::<2>(w.position as u64), &mut line, 16);
+    text::put(&text::decimal::<2>(w.width as u64), &mut line, 25);
+    text::put(&text::decimal::<2>(w.a as u64), &mut line, 30);
+    text::put(&text::decimal::<2>(w.b as u64), &mut line, 35);
+    text::put(&text::decimal::<2>(w.y as u64), &mut line, 40);
     line
 }
 
@@ -53,12 +42,9 @@ fn numbers(w: Word) -> [u8; NUMBERS]
 fn first_line(version: u32, registers: u32) -> [u8; FIRST]
     ensures { result ≡ ended (first_line version registers) }
 {
-    let v = text::decimal::<1>(version as u64);
-    let n = text::decimal::<2>(registers as u64);
     let mut line = *b"version=0 registers=00\n";
-    line[8] = v[0];
-    line[20] = n[0];
-    line[21] = n[1];
+    text::put(&text::decimal::<1>(version as u64), &mut line, 8);
+    text::put(&text::decimal::<2>(registers as u64), &mut line, 20);
     line
 }
 

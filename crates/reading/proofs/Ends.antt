@@ -17,7 +17,7 @@ use Rattle.grammar.specs.declared.Head.{Head}
 use Rattle.std.proofs.Common.{Option, Some, None, Result, Ok, Err}
 use Rattle.grammar.specs.Grammar.{lines_of, head_in}
 use Rattle.reading.specs.Reader.{first_in, word_lines_in, head_rows, lines_rows, size_rows, read_rows, header4, split4, packed_lines, sheet_in, read_of, AllFit}
-use Rattle.reading.proofs.Table.{past_lines, first-sound, size-count, size_room, size_good}
+use Rattle.reading.proofs.Table.{past_lines, size-count, size_room, size_good}
 use Rattle.reading.proofs.Words.{all_fit}
 
 -- ---- what the code saw
@@ -65,14 +65,10 @@ pub counted : {t rest : List ℕ} {h : Head} {words : ℕ} {c : Check} → Begun
     → words ≡ length (lines_of rest) → Counted t h rest words
 counted b e g f = record { begun = b; sound = sym e ∙ g; count = f }
 
--- so all is as it has to be where the sheet is put
-pub put_ready : {t : List ℕ} {h : Head} {rest : List ℕ} {words room : ℕ} → Counted t h rest words → words ≤ 4095 → 4 + 6 * words ≤ room
-    → (AllFit (lines_of rest) × (4 + 6 * length (lines_of rest) ≤ room)) × ((h.version < 16) × (words < 4096) × (h.registers < 128))
-put_ready {t} {h} {rest} s few r =
-    let f = first-sound h s.begun.sound in (
-      (all_fit h.registers 1 (lines_of rest) s.sound, omega (arith, s.count)),
-      (omega (arith, f.0), omega arith, omega (arith, f.1)),
-    )
+-- so the words fit, their fields and their bytes
+pub put_ready : {t : List ℕ} {h : Head} {rest : List ℕ} {words room : ℕ} → Counted t h rest words → 4 + 6 * words ≤ room
+    → AllFit (lines_of rest) × (4 + 6 * length (lines_of rest) ≤ room)
+put_ready {t} {h} {rest} s r = (all_fit h.registers 1 (lines_of rest) s.sound, omega (arith, s.count))
 
 -- ---- the promise
 -- what is added at the start is written

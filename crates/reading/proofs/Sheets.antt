@@ -1,19 +1,14 @@
 -- The words of a text's lines, one after another in a lent sheet.
-use mathlib.Core.Path.{◌≡◌, refl, ap, sym, subst, ◌∙◌}
+use mathlib.Core.Path.{◌≡◌, ap, sym, subst, ◌∙◌}
 use mathlib.Core.List.{List, [], ◌∷◌, ◌++◌, append_assoc, append-nil}
 use Prim.Native.Nat.{ℕ, ◌+◌, ◌*◌, ◌≤◌}
 use native.Mathlib.Omega.{arith}
 use lib.ListN.{length}
-use lib.Seq.{paste-zero}
 use Rattle.text.specs.Fill.{Added}
 use Rattle.text.proofs.Fill.{added_on, added_as}
 use Rattle.packing.specs.Packing.{InRange}
 use Rattle.grammar.specs.Grammar.{word_in}
 use Rattle.reading.specs.Reader.{word_by, packed_line, packed_lines, AllFit}
-
--- nothing added
-added_none : (at : ℕ) (before : List ℕ) → Added [] at before at before
-added_none at before = record { ends = omega arith; put = record { bytes = paste-zero before at [] } }
 
 -- ---- what holds at each turn: the words so far stand after the header, and with those left they are all
 pub record Putting (before after : List ℕ) (all left : List (List ℕ)) (to : ℕ) : Type 0 where
@@ -23,17 +18,6 @@ pub record Putting (before after : List ℕ) (all left : List (List ℕ)) (to : 
   pub fit : AllFit left
   pub put : Added front 4 before to after
   pub words : packed_lines all ≡ front ++ packed_lines left
-
--- at first none stands
-pub putting_start : (before : List ℕ) (all : List (List ℕ)) → AllFit all → 4 + 6 * length all ≤ length before → Putting before before all all 4
-putting_start before all f r = record {
-  front = [];
-  size = refl;
-  room = r;
-  fit = f;
-  put = added_none 4 before;
-  words = refl;
-}
 
 module _ {before after : List ℕ} {all left : List (List ℕ)} {to : ℕ} (p : Putting before after all left to) where
   module _ {l : List ℕ} {ls : List (List ℕ)} (s : left ≡ l ∷ ls) where
@@ -60,11 +44,3 @@ module _ {before after : List ℕ} {all left : List (List ℕ)} {to : ℕ} (p : 
   pub putting_done : left ≡ [] → Added (packed_lines all) 4 before to after
   unfolding packed_lines
   putting_done h = added_as (sym (p.words ∙ ap (λ (ls : List (List ℕ)). p.front ++ packed_lines ls) h ∙ append-nil p.front)) p.put
-
--- ---- the whole: a header of four bytes, and the words after it
-pub sheet_added : {h header ws before middle after : List ℕ} {end stop : ℕ} → h ≡ header → length header ≡ 4 → Added h 0 before end middle
-    → Added ws 4 middle stop after → Added (header ++ ws) 0 before stop after
-sheet_added {ws = ws} {before} {middle} {after} {end} {stop} e four a w =
-    let b = added_as e a in
-    let ends : 4 ≡ end = omega (arith, b.ends, four) in
-    added_on (omega arith) b (subst (λ (k : ℕ). Added ws k middle stop after) ends w)

@@ -2,15 +2,12 @@
 use mathlib.Core.Path.{◌≡◌, refl, ap, sym, ◌∙◌}
 use mathlib.Core.List.{List, [], ◌∷◌, ◌++◌}
 use Prim.Native.Nat.{ℕ, ◌+◌, ◌*◌, ◌≤◌, ◌<◌}
-use borrow.Author.Tests.{lt-ltb, le-ltb, ltb-false, eqb-true, not-false}
+use borrow.Author.Tests.{lt-ltb, le-ltb}
 use lib.ListN.{length}
-use lib.Dec.{eqb, ltb}
 use Rattle.reasons.specs.Reasons.{Row, first_of, good, refused}
 use Rattle.reasons.specs.declared.Reason.{Reason}
 use Rattle.reasons.specs.declared.Reason.TheVariants.{Room, Text, Count}
-use Rattle.reasons.proofs.Rows.{None, good_none, first_bad, first_good}
-use Rattle.reasons.proofs.Rows.None.{more}
-use Rattle.packing.proofs.Numbers.{or_right}
+use Rattle.reasons.proofs.Rows.{first_bad, first_good}
 use Rattle.grammar.specs.declared.Head.{Head}
 use Rattle.std.proofs.Common.{Option, Some, None as NoHead, Err}
 use Rattle.reasons.specs.declared.Refusal.{Refusal}
@@ -95,10 +92,3 @@ module _ (count room : ℕ) where
 
   pub size_good : count ≤ 4095 → 4 + 6 * count ≤ room → first_of (size_rows count room) ≡ good
   size_good h r = rw (le-ltb 4095 count h, le-ltb room (4 + 6 * count) r) refl
-
--- a first line that was checked: version 1, and few registers
-pub first-sound : (h : Head) → first_of (head_rows (Some h)) ≡ good → (h.version ≡ 1) × (h.registers ≤ 64)
-first-sound h e = go (good_none (head_rows (Some h)) e)
-  where
-    go : None (head_rows (Some h)) → (h.version ≡ 1) × (h.registers ≤ 64)
-    go (more h₁ (more h₂ t)) = (eqb-true h.version 1 (not-false _ h₁), ltb-false 64 h.registers (or_right (eqb h.registers 0) (ltb 64 h.registers) h₂))

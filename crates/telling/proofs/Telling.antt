@@ -2,9 +2,9 @@
 use mathlib.Core.Path.{◌≡◌, refl, sym, ap, ◌∙◌}
 use mathlib.Core.List.{List, [], ◌∷◌, ◌++◌}
 use mathlib.Core.Bool.{Bool, true, false, not, true≢false}
-use Prim.Native.Nat.{ℕ, zero, suc, ◌+◌, ◌-◌, ◌%◌, ◌≤◌}
+use Prim.Native.Nat.{ℕ, zero, suc, ◌+◌, ◌%◌, ◌≤◌}
 use native.Mathlib.Omega.{arith}
-use lib.ListN.{length, get_or, take, drop, length-append}
+use lib.ListN.{length, get_or, drop, length-append}
 use lib.Dec.{ltb}
 use Rattle.reasons.specs.declared.Reason.{Reason}
 use Rattle.reasons.specs.declared.Reason.TheVariants.{Done, Opcode, Inputs, Short, Version, Header, Length, File, Spare, Register, Start, Form, Overlap, Schedule, Room, Text, Count, Idle}
@@ -31,21 +31,6 @@ unfolding numbers_of
 numbers-length reason place = refl
 
 -- ---- a number without zeros in front
--- the last digits of five
-last_digits : (k n : ℕ) → k ≤ 5 → take (5 - (5 - k)) (drop (5 - k) (decimal_of 5 n)) ≡ decimal_of k n
-last_digits zero n h = refl
-last_digits (suc zero) n h = refl
-last_digits (suc (suc zero)) n h = refl
-last_digits (suc (suc (suc zero))) n h = refl
-last_digits (suc (suc (suc (suc zero)))) n h = refl
-last_digits (suc (suc (suc (suc (suc zero))))) n h = refl
-last_digits (suc (suc (suc (suc (suc (suc k)))))) n h = absurd (omega arith)
-
-pub plain_part : (five : List ℕ) (k n : ℕ) → five ≡ decimal_of 5 (n % 100000) → k ≡ digits_in (n % 100000) → k ≤ 5
-    → take (5 - (5 - k)) (drop (5 - k) five) ≡ plain_of n
-plain_part five k n e f h =
-    ap (λ (l : List ℕ). take (5 - (5 - k)) (drop (5 - k) l)) e ∙ last_digits k (n % 100000) h ∙ ap (λ (i : ℕ). decimal_of i (n % 100000)) f
-
 pub decimal-length : (k n : ℕ) → length (decimal_of k n) ≡ k
 decimal-length zero n = refl
 decimal-length (suc k) n = ap suc (decimal-length k n)

@@ -8,15 +8,6 @@ use Rattle.listing.specs.Lines.{first_line, ended}
 use Rattle.listing.proofs.Lines.{first-length, listing_parts, listing_written}
 use Rattle.listing.proofs.fill.Goals as goal
 
-pub version-requires : goal.version-requires
-version-requires c = c.requires.0.long
-
-pub declared-requires : goal.declared-requires
-declared-requires c = c.requires.0.long
-
-pub overflow_cast-declared : goal.overflow_cast-declared
-overflow_cast-declared c = omega (arith, c.declared.ensures, c.requires.0.few)
-
 pub put-at-requires : goal.put-at-requires
 put-at-requires c = omega (arith, c.requires.1, ap length c.first_line-first.ensures ∙ first-length _ _, listing_parts c.args.sheet.now)
 

@@ -7,17 +7,8 @@ use Rattle.text.proofs.Fill.{added_as}
 use Rattle.chip.specs.declared.Word.{Word}
 use Rattle.sheet.specs.Sheet.{words_of}
 use Rattle.listing.specs.Lines.{word_line, ended}
-use Rattle.listing.proofs.Lines.{adding-start, adding-room, adding-more, adding_done}
+use Rattle.listing.proofs.Lines.{adding-room, adding-more, adding_done}
 use Rattle.listing.proofs.put_lines.Goals as goal
-
-pub words-count-requires : goal.words-count-requires
-words-count-requires c = c.requires.0.long
-
-pub loop-k-init : goal.loop-k-init
-loop-k-init c = adding-start c.args.sheet.now c.args.text.now c.args.«from»
-
-pub word_at-requires : goal.word_at-requires
-word_at-requires c = omega (arith, c.requires.0.whole, c.loop-k-test.true, c.words-count.ensures)
 
 pub put_line-at-requires : goal.put_line-at-requires
 put_line-at-requires c = let h : c.loop-k.k < words_of c.args.sheet.now = omega (arith, c.loop-k-test.true, c.words-count.ensures) in (
@@ -28,9 +19,6 @@ put_line-at-requires c = let h : c.loop-k.k < words_of c.args.sheet.now = omega 
 pub loop-k-preserved : goal.loop-k-preserved
 loop-k-preserved c = adding-more c.loop-k.invariant (omega (arith, c.loop-k-test.true, c.words-count.ensures)) (omega (arith, c.requires.1)) c.put_line-at.auto.text
     (added_as (ap (λ (x : Word). ended (word_line x)) c.word_at.ensures.0) c.put_line-at.ensures)
-
-pub shape_of-text : goal.shape_of-text
-shape_of-text c = c.loop-k.invariant.room
 
 pub returns : goal.returns
 returns c = adding_done c.loop-k.invariant (omega (arith, c.loop-k-test.false, c.words-count.ensures))

@@ -10,17 +10,8 @@ use Rattle.listing.specs.Lines.{word_line, ended}
 use Rattle.listing.proofs.Lines.{counting_start, counting_more, counting_done, line-length, words_few}
 use Rattle.listing.proofs.size.Goals as goal
 
-pub words-count-requires : goal.words-count-requires
-words-count-requires c = c.requires.long
-
 pub loop-k-init : goal.loop-k-init
 loop-k-init c = counting_start c.args.sheet.now
-
-pub word_at-requires : goal.word_at-requires
-word_at-requires c = omega (arith, c.requires.whole, c.loop-k-test.true, c.words-count.ensures)
-
-pub line_length-bytes-requires : goal.line_length-bytes-requires
-line_length-bytes-requires c = subst InRange (sym c.word_at.ensures.0) (c.requires.word _ (omega (arith, c.loop-k-test.true, c.words-count.ensures))).range
 
 pub overflow_add-bytes : goal.overflow_add-bytes
 overflow_add-bytes c = let r = subst InRange (sym c.word_at.ensures.0) (c.requires.word _ (omega (arith, c.loop-k-test.true, c.words-count.ensures))).range in

@@ -1,9 +1,6 @@
 -- The words so far stand after the header, and with those left they are all (`Putting`).
-use Rattle.reading.proofs.Sheets.{next_fits, putting_more, putting_done}
+use Rattle.reading.proofs.Sheets.{putting_more, putting_done}
 use Rattle.reading.proofs.put_words.Goals as goal
-
-pub put_word-to-requires : goal.put_word-to-requires
-put_word-to-requires c = next_fits c.loop-line.invariant c.in-Some.ensures.steps
 
 pub loop-line-preserved : goal.loop-line-preserved
 loop-line-preserved c = putting_more c.loop-line.invariant c.in-Some.ensures.steps c.put_word-to.ensures c.put_word-to.auto.sheet

@@ -62,16 +62,15 @@ returns-in_err-refuse_if-2 c =
     (ltb-false _ _ c.in_ok-refuse_if.ensures.passed) (ltb-true _ _ c.in_err-refuse_if-2.ensures.held.0) in
     record { sheet_after = p.0; numbers = p.1 }
 
-pub put_sheet-requires : goal.put_sheet-requires
-put_sheet-requires c =
+pub put_sheet-requires-clause-fits : goal.put_sheet-requires-clause-fits
+put_sheet-requires-clause-fits c =
     let t = c.args.text.now in
     let d = c.args.sheet.now in
     let s = first_read t c.next.new.self.0.now _ _ c.next.ensures.steps refl c.unwrap_or-first.ensures c.read_first.ensures in
     let h = s.0 ∙ c.ok_or.ensures.ok_part ∙ ap result_ok c.in_ok-head.was in
     let b = begun h s.1 c.check_first.ensures c.in_ok-check_first.was in
     let k = counted b c.check_lines.ensures c.in_ok-check_lines.was c.count_lines-words.ensures in
-    let p = put_ready k (ltb-false _ _ c.in_ok-refuse_if.ensures.passed) (ltb-false _ _ c.in_ok-refuse_if-2.ensures.passed) in
-    record { fits = p.0; small = p.1 }
+    put_ready k (ltb-false _ _ c.in_ok-refuse_if-2.ensures.passed)
 
 pub returns : goal.returns
 returns c =
