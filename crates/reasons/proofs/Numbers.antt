@@ -62,7 +62,7 @@ Telling [] = Unit
 Telling (r ∷ rs) = (0 < number_of r.reason) × Telling rs
 
 pub telling_first : (rows : List Row) → Telling rows → Tells (first_of rows)
-telling_first [] t r p e = absurd (let z : ◌≡◌ {A = ℕ} 0 1 = cc in omega arith)
+telling_first [] t r p e = absurd (cc)
 telling_first (x ∷ xs) t r p e = go x.holds e (telling_first xs t.1 r p)
   where
     go : (b : Bool) → or_else b (refused x.reason x.place) (first_of xs) ≡ refused r p → (first_of xs ≡ refused r p → 0 < number_of r) → 0 < number_of r

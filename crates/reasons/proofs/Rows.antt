@@ -39,7 +39,7 @@ good_none [] e = none
 good_none (r ∷ rs) e = go r.holds refl e (good_none rs)
   where
     go : (b : Bool) → r.holds ≡ b → or_else b (refused r.reason r.place) (first_of rs) ≡ good → (first_of rs ≡ good → None rs) → None (r ∷ rs)
-    go true h f i = absurd (let z : ◌≡◌ {A = ℕ} 0 1 = cc in omega arith)
+    go true h f i = absurd (cc)
     go false h f i = more h (i f)
 
 pub none_good : (a : List Row) → None a → first_of a ≡ good
@@ -77,7 +77,7 @@ first_good a b e = first_past a b (good_none a e)
 
 -- a table after one that refuses
 pub first_bad : (a b : List Row) (r : Reason) (p : ℕ) → first_of a ≡ refused r p → first_of (a ++ b) ≡ refused r p
-first_bad [] b r p e = absurd (let z : ◌≡◌ {A = ℕ} 0 1 = cc in omega arith)
+first_bad [] b r p e = absurd (cc)
 first_bad (x ∷ xs) b r p e = go x.holds refl e (first_bad xs b r p)
   where
     go : (t : Bool) → x.holds ≡ t → or_else t (refused x.reason x.place) (first_of xs) ≡ refused r p
@@ -107,7 +107,7 @@ exactly_if rows r p f =
     ∙ rw (f.holds, f.reason, f.place) refl
 
 pub exactly_only : (rows : List Row) (r : Reason) (p : ℕ) → first_of rows ≡ refused r p → First rows r p
-exactly_only [] r p e = absurd (let z : ◌≡◌ {A = ℕ} 0 1 = cc in omega arith)
+exactly_only [] r p e = absurd (cc)
 exactly_only (x ∷ xs) r p e = go x.holds refl e (exactly_only xs r p)
   where
     go : (t : Bool) → x.holds ≡ t → or_else t (refused x.reason x.place) (first_of xs) ≡ refused r p
