@@ -67,6 +67,20 @@ hold_append : (a b : List Row) → none_hold (a ++ b) ≡ (none_hold a && none_h
 hold_append [] b = refl
 hold_append (r ∷ rs) b = rw (hold_append rs b, and_assoc) refl
 
+-- a table after another: what it answers where the first refuses nothing
+abbrev pub and_then : Check → Check → Check
+and_then (Ok done) d = d
+and_then (Err refusal) d = Err refusal
+
+pub first_append : (a b : List Row) → first_of (a ++ b) ≡ and_then (first_of a) (first_of b)
+first_append [] b = refl
+first_append (r ∷ rs) b = go r.holds (first_append rs b)
+  where
+    go : (t : Bool) → first_of (rs ++ b) ≡ and_then (first_of rs) (first_of b)
+        → or_else t (refused r.reason r.place) (first_of (rs ++ b)) ≡ and_then (or_else t (refused r.reason r.place) (first_of rs)) (first_of b)
+    go true e = refl
+    go false e = e
+
 -- a table after one in which no row holds
 pub first_past : (a b : List Row) → None a → first_of (a ++ b) ≡ first_of b
 first_past [] b n = refl
@@ -133,19 +147,18 @@ module _ (f : ℕ → List Row) where
       let e : count - k ≡ suc (count - (k + 1)) = omega arith in
       rw e refl
 
-  rows_bad : (k count : ℕ) (r : Reason) (p : ℕ) → k < count → first_of (f k) ≡ refused r p → first_of (rows_by f k (count - k)) ≡ refused r p
-  rows_bad k count r p h e = ap first_of (rows_more k count h) ∙ first_bad (f k) (rows_by f (k + 1) (count - (k + 1))) r p e
+  pub rows_bad : (k count : ℕ) (x : Refusal) → k < count → first_of (f k) ≡ Err x → first_of (rows_by f k (count - k)) ≡ Err x
+  rows_bad k count x h e = ap first_of (rows_more k count h) ∙ first_bad (f k) (rows_by f (k + 1) (count - (k + 1))) x.reason x.place e
 
-  rows_good : (k count : ℕ) → k < count → first_of (f k) ≡ good → first_of (rows_by f k (count - k)) ≡ first_of (rows_by f (k + 1) (count - (k + 1)))
+  pub rows_good : (k count : ℕ) → k < count → first_of (f k) ≡ good → first_of (rows_by f k (count - k)) ≡ first_of (rows_by f (k + 1) (count - (k + 1)))
   rows_good k count h e = ap first_of (rows_more k count h) ∙ first_good (f k) (rows_by f (k + 1) (count - (k + 1))) e
 
-  -- with the answer so far, and that of the next test
-  pub rows_hold : (good t : Bool) (k count : ℕ) → k < count → t ≡ none_hold (f k)
-      → (good && none_hold (rows_by f k (count - k))) ≡ (good && t && none_hold (rows_by f (k + 1) (count - (k + 1))))
-  rows_hold good t k count h e =
-      let rest : List Row = rows_by f (k + 1) (count - (k + 1)) in
-      ap (λ (b : Bool). good && b) (ap none_hold (rows_more k count h) ∙ hold_append (f k) rest)
-      ∙ sym (and_assoc good (none_hold (f k)) (none_hold rest)) ∙ ap (λ (b : Bool). good && b && none_hold rest) (sym e)
+  -- whether a row holds in it: in the next one's, or in those after it
+  pub rows_hold : (k count : ℕ) → k < count → none_hold (rows_by f k (count - k)) ≡ (none_hold (f k) && none_hold (rows_by f (k + 1) (count - (k + 1))))
+  rows_hold k count h = ap none_hold (rows_more k count h) ∙ hold_append (f k) (rows_by f (k + 1) (count - (k + 1)))
+
+-- what a loop over the things asks for, whose invariant is that the whole table answers as what is left of it
+pub ruleset scanning = (rows_bad, rows_good)
 
 -- what holds at each turn of a loop over the things up to n: the whole table answers as what is left of it, from thing k on
 pub record Scan (f : ℕ → List Row) (whole : List Row) (n k : ℕ) : Type 0 where
@@ -157,7 +170,7 @@ scan_start f k m n h e = record { upto = h; same = ap (λ (j : ℕ). first_of (r
 
 module _ {f : ℕ → List Row} {whole : List Row} {n k : ℕ} (s : Scan f whole n k) where
   pub scan_bad : {r : Reason} {p : ℕ} → k < n → first_of (f k) ≡ refused r p → refused r p ≡ first_of whole
-  scan_bad {r} {p} h e = sym (s.same ∙ rows_bad f k n r p h e)
+  scan_bad {r} {p} h e = sym (s.same ∙ rows_bad f k n (record { reason = r; place = p }) h e)
 
   pub scan_more : k < n → first_of (f k) ≡ good → Scan f whole n (k + 1)
   scan_more h e = record { upto = omega arith; same = s.same ∙ rows_good f k n h e }
