@@ -6,7 +6,7 @@ use mathlib.Core.Bool.{Bool, true, false, not, ◌&&◌, true≢false, and_assoc
 use Prim.Native.Nat.{ℕ, zero, suc, ◌+◌, ◌-◌, ◌≤◌, ◌<◌}
 use native.Mathlib.Omega.{arith}
 use native.Mathlib.Decide.{ℕ_discrete}
-use Rattle.reasons.specs.Reasons.{Row, ◌gives◌at◌, first_of, none_hold, rows_by, refused, Check, good, or_else}
+use Rattle.reasons.specs.Reasons.{Row, first_of, none_hold, rows_by, refused, Check, good, or_else}
 use Rattle.std.proofs.Common.{Result, Ok, Err}
 use Rattle.std.specs.Result.{IsErrAnd}
 use Rattle.reasons.specs.declared.Reason.{Reason}
@@ -159,24 +159,6 @@ module _ (f : ℕ → List Row) where
 
 -- what a loop over the things asks for, whose invariant is that the whole table answers as what is left of it
 pub ruleset scanning = (rows_bad, rows_good)
-
--- what holds at each turn of a loop over the things up to n: the whole table answers as what is left of it, from thing k on
-pub record Scan (f : ℕ → List Row) (whole : List Row) (n k : ℕ) : Type 0 where
-  pub upto : k ≤ n
-  pub same : first_of whole ≡ first_of (rows_by f k (n - k))
-
-pub scan_start : (f : ℕ → List Row) (k m n : ℕ) → k ≤ n → n - k ≡ m → Scan f (rows_by f k m) n k
-scan_start f k m n h e = record { upto = h; same = ap (λ (j : ℕ). first_of (rows_by f k j)) (sym e) }
-
-module _ {f : ℕ → List Row} {whole : List Row} {n k : ℕ} (s : Scan f whole n k) where
-  pub scan_bad : {r : Reason} {p : ℕ} → k < n → first_of (f k) ≡ refused r p → refused r p ≡ first_of whole
-  scan_bad {r} {p} h e = sym (s.same ∙ rows_bad f k n (record { reason = r; place = p }) h e)
-
-  pub scan_more : k < n → first_of (f k) ≡ good → Scan f whole n (k + 1)
-  scan_more h e = record { upto = omega arith; same = s.same ∙ rows_good f k n h e }
-
-  pub scan_done : n ≤ k → good ≡ first_of whole
-  scan_done h = let e : n - k ≡ 0 = omega arith in sym (s.same ∙ rw e refl)
 
 -- a part of the table in which no row holds
 pub none_left : (a b : List Row) → None (a ++ b) → None a
