@@ -49,6 +49,8 @@ pub lacks_err : (d : Result Operation Reason) → is_err d ≡ is_no_page (page_
 lacks_err (Ok o) = refl
 lacks_err (Err r) = refl
 
+pub ruleset lacking = (lacks_decoded, lacks_err)
+
 -- what a number's operation does is what the whole word does
 pub performs : (n : ℕ) (o : Operation) (x : Inputs) → decoded_of n ≡ Ok o → meaning_of o x ≡ perform_of n x
 unfolding perform_of

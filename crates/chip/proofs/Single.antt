@@ -16,9 +16,9 @@ use Rattle.chip.specs.Glossary.{Page, page_of}
 use Rattle.chip.specs.Glossary.Page.{page, no_page}
 use Rattle.chip.specs.Operations.{decoded_of}
 use Rattle.chip.specs.Single.{is_no_page, lacks_page, out_of_range, single_inputs, single_shown, performed, refused_as, unless, single_of, single_outcome}
-use Rattle.chip.proofs.Pages.{page_for, page_decoded}
+use Rattle.chip.proofs.Pages.{page_for, page_decoded, performs}
 use Rattle.chip.proofs.Range.{in_range}
-use Rattle.chip.proofs.Kept.{perform_kept}
+use Rattle.chip.proofs.Kept.{meaning_kept, perform_kept}
 
 module _ (s : SingleWord) where
   -- the answer, from the page of the opcode and the test of the inputs
@@ -58,9 +58,9 @@ module _ (s : SingleWord) where
   numbers_by (page f) false = refl
   numbers_by no_page t = refl
 
-  in_numbers : (r : SingleAnswer) → r ≡ single_of s → check_numbers r.check ≡ single_outcome s
+  pub single-numbers : check_numbers (single_of s).check ≡ single_outcome s
   unfolding tested lacks_page
-  in_numbers r e = ap (λ (a : SingleAnswer). check_numbers a.check) (e ∙ sym from_rows) ∙ numbers_by (page_of s.opcode) tested
+  single-numbers = ap (λ (a : SingleAnswer). check_numbers a.check) (sym from_rows) ∙ numbers_by (page_of s.opcode) tested
 
   -- the pins are those five bits of the status answered, of every word and of every refusal; A, B and Q have 32 bits
   module _ (a : s.a < 2 ^ 32) (b : s.b < 2 ^ 32) (q : s.q < 2 ^ 32) where
@@ -73,7 +73,9 @@ module _ (s : SingleWord) where
     pub single-pins : (single_of s).pins ≡ pins_in (single_of s).status
     single-pins = subst (λ (r : SingleAnswer). r.pins ≡ pins_in r.status) from_rows (pins_by (page_of s.opcode) tested refl)
 
-    -- all that the promise says of an answer, once it is that of the definition
-    pub promised : (r : SingleAnswer) → r ≡ single_of s
-        → (r ≡ single_of s) × ((check_numbers r.check ≡ single_outcome s) × (r.pins ≡ pins_in r.status))
-    promised r e = (e, (in_numbers r e, subst (λ (x : SingleAnswer). x.pins ≡ pins_in x.status) (sym e) single-pins))
+-- ---- what the code of the single word asks for
+pub ruleset answering = (performs, meaning_kept)
+
+pub ruleset admitting = (refused-inputs, answered, in_range)
+
+pub ruleset single = (refused-opcode, single-numbers, single-pins)

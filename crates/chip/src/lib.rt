@@ -90,6 +90,7 @@ pub fn decode(n: u32) -> Result<Operation, Reason>
 }
 
 // Whether an opcode number has no page in chapter 2 (reason Opcode): what `decode` answers, as a test.
+#[tactic(auto, using(crate::proofs::Pages::lacking))]
 pub fn lacks_page(n: u32) -> bool
     ensures { result ≡ lacks_page n }
 {
@@ -163,6 +164,7 @@ fn perform(operation: Operation, x: Inputs) -> Outputs
 }
 
 // A byte code, a position, a width or a switch that is too large. `|` tests all, without a branch for each.
+#[tactic(auto, unfolding(crate::specs::Single::out_of_range))]
 pub fn out_of_range(
     code: u32,
     position: u32,
@@ -222,6 +224,7 @@ fn inputs(s: SingleWord) -> Inputs
 }
 
 // The answer of a word whose opcode has a page and whose inputs are in range.
+#[tactic(auto, using(crate::proofs::Single::answering))]
 fn answer(operation: Operation, s: SingleWord) -> SingleAnswer
     requires { (decoded_of s.opcode ≡ Ok operation) × Sound (single_inputs s) }
     ensures { result ≡ performed (single_shown s) }
@@ -239,6 +242,7 @@ fn answer(operation: Operation, s: SingleWord) -> SingleAnswer
 }
 
 // A word whose opcode has a page.
+#[tactic(auto, using(crate::proofs::Single::admitting))]
 fn admit(operation: Operation, s: SingleWord) -> SingleAnswer
     requires { decoded_of s.opcode ≡ Ok operation }
     ensures { result ≡ single_of s }
@@ -252,6 +256,7 @@ fn admit(operation: Operation, s: SingleWord) -> SingleAnswer
 }
 
 // The single word, with any values: refused with its reason, or Y, parity, Q, status and pins.
+#[tactic(auto, using(crate::proofs::Single::single))]
 pub fn single_word(s: SingleWord) -> SingleAnswer
     ensures value { result ≡ single_of s }
     ensures numbers { check_numbers result.check ≡ single_outcome s }

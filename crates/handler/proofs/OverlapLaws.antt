@@ -29,11 +29,6 @@ pub record Gathering (s : List ℕ) (n set k : ℕ) : Type 0 where
   pub small : set < 2 ^ 64
   pub whole : names_all (words_from s 0 n) ≡ bit_or set (names_all (words_from s k (n - k)))
 
-pub gathering_start : (s : List ℕ) (n : ℕ) → Gathering s n 0 0
-gathering_start s n =
-    let e : n - 0 ≡ n = omega arith in
-    record { upto = omega arith; small = lit< tt; whole = ap (λ (j : ℕ). names_all (words_from s 0 j)) (sym e) }
-
 module _ {s : List ℕ} {n set k : ℕ} (g : Gathering s n set k) where
   pub gathering_more : (names : ℕ) → k < n → names ≡ names_of (word_at s k) → Gathering s n (bit_or set names) (k + 1)
   unfolding names_all words_from

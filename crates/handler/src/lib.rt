@@ -16,6 +16,7 @@ use sheet::Which;
 // ---- sets of registers
 
 // Whether two sets have a register in common.
+#[tactic(auto, unfolding(packing::specs::Registers::common))]
 fn meet(s: u64, t: u64) -> bool
     ensures { result ≡ common s t }
 {
@@ -37,6 +38,7 @@ fn names_in(s: &[u8], n: usize) -> u64
 // ---- 11: the form. `saved` is the set of s and q. In these tests `|` asks all, without a branch for each.
 
 // Not a word of this opcode and write, or a byte code or a switch that is not 0.
+#[tactic(auto, unfolding(crate::specs::Form::not_fixed))]
 fn not_fixed(w: Word, opcode: u32, write: u32) -> bool
     ensures { result ≡ not_fixed w opcode write }
 {
@@ -50,6 +52,7 @@ fn not_fixed(w: Word, opcode: u32, write: u32) -> bool
 }
 
 // Word 0 saves the status in s.
+#[tactic(auto, unfolding(crate::specs::Form::saving_status_fault))]
 fn saving_status_fault(saved: u64, w: Word) -> bool
     requires { Narrow w }
     ensures { result ≡ saving_status_fault saved w }
@@ -58,6 +61,7 @@ fn saving_status_fault(saved: u64, w: Word) -> bool
 }
 
 // Word 1 saves Q in q, which is not s.
+#[tactic(auto, unfolding(crate::specs::Form::saving_q_fault))]
 fn saving_q_fault(saved: u64, s: u32, q: u32, w: Word) -> bool
     requires { Narrow w }
     ensures { result ≡ saving_q_fault saved s q w }
@@ -66,6 +70,7 @@ fn saving_q_fault(saved: u64, s: u32, q: u32, w: Word) -> bool
 }
 
 // A word of the body, which names neither.
+#[tactic(auto, unfolding(crate::specs::Form::body_fault))]
 fn body_fault(saved: u64, w: Word) -> bool
     requires { Narrow w }
     ensures { result ≡ body_fault saved w }
@@ -74,6 +79,7 @@ fn body_fault(saved: u64, w: Word) -> bool
 }
 
 // Words 2 and 3 load Q and the status that the body starts with.
+#[tactic(auto, unfolding(crate::specs::Form::loading_fault))]
 fn loading_fault(opcode: u32, saved: u64, w: Word) -> bool
     requires { Narrow w }
     ensures { result ≡ loading_fault opcode saved w }
@@ -82,6 +88,7 @@ fn loading_fault(opcode: u32, saved: u64, w: Word) -> bool
 }
 
 // The last two words give Q and then the status back; `back` is where this one was saved.
+#[tactic(auto, unfolding(crate::specs::Form::giving_back_fault))]
 fn giving_back_fault(opcode: u32, back: u32, saved: u64, w: Word) -> bool
     requires { Narrow w }
     ensures { result ≡ giving_back_fault opcode back saved w }
@@ -92,6 +99,7 @@ fn giving_back_fault(opcode: u32, back: u32, saved: u64, w: Word) -> bool
 }
 
 // Whether word k of n is at fault.
+#[tactic(auto, unfolding(crate::specs::Form::fault_at))]
 fn fault(n: usize, s: u32, q: u32, saved: u64, k: usize, w: Word) -> bool
     requires { Narrow w × (saved ≡ saves s q) × (k < n) }
     ensures { result ≡ fault_at n s q k w }
@@ -108,6 +116,7 @@ fn fault(n: usize, s: u32, q: u32, saved: u64, k: usize, w: Word) -> bool
 }
 
 // The first of n words that is at fault.
+#[tactic(auto, using(reasons::proofs::Rows::scanning))]
 fn first_misformed(h: &[u8], n: usize, s: u32, q: u32, saved: u64) -> Result<(), Refusal>
     requires { (4 + 6 * n ≤ length h.now) × (saved ≡ saves s q) }
     ensures { result ≡ first_of (rows_by (form_row h.now n s q) 0 n) }
@@ -121,6 +130,7 @@ fn first_misformed(h: &[u8], n: usize, s: u32, q: u32, saved: u64) -> Result<(),
 
 // Reason 11; s and q are the Y fields of the first two words as they stand, written or not. Public for the crate above, which has checked the
 // sheet.
+#[tactic(auto, unfolding(crate::specs::Form::form_of))]
 pub fn form(h: &[u8]) -> Result<(), Refusal>
     requires { (4 ≤ length h.now) × (4 + 6 * words_of h.now ≤ length h.now) }
     ensures { result ≡ form_of h.now }
@@ -134,6 +144,7 @@ pub fn form(h: &[u8]) -> Result<(), Refusal>
 }
 
 // A sheet handed in as a handler, on its own: its own reasons, then the form.
+#[tactic(auto, using(crate::proofs::FormLaws::handler_parts))]
 pub fn check_handler(s: &[u8]) -> Result<(), Refusal>
     ensures value { result ≡ handler_of s.now }
     ensures numbers { check_numbers result ≡ check_numbers (handler_of s.now) }
@@ -145,6 +156,7 @@ pub fn check_handler(s: &[u8]) -> Result<(), Refusal>
 // ---- 12: registers named by both
 
 // The first of m main words that names a register of a set.
+#[tactic(auto, using(reasons::proofs::Rows::scanning))]
 fn first_sharing(main: &[u8], m: usize, theirs: u64) -> Result<(), Refusal>
     requires { 4 + 6 * m ≤ length main.now }
     ensures { result ≡ first_of (rows_by (overlap_row main.now theirs) 0 m) }
@@ -158,6 +170,7 @@ fn first_sharing(main: &[u8], m: usize, theirs: u64) -> Result<(), Refusal>
 
 // Reason 12: the registers of the two sheets, each in one pass; only where they meet is the first main word looked for. Public for the crate
 // above, which has checked both.
+#[tactic(auto, using(crate::proofs::OverlapLaws::apart_good), unfolding(crate::specs::Overlap::overlap_of))]
 pub fn overlap<'a>(main: &'a [u8], h: &'a [u8]) -> Result<(), Refusal>
     requires in_bounds { (4 ≤ length main.now) × (4 + 6 * words_of main.now ≤ length main.now) }
     requires in_bounds_2 { (4 ≤ length h.now) × (4 + 6 * words_of h.now ≤ length h.now) }
@@ -190,6 +203,7 @@ fn check_entry(n: usize, last: usize, b: usize, j: usize) -> Result<(), Refusal>
 }
 
 // Reason 13 for a main list of n executions, in one pass.
+#[tactic(auto, using(crate::proofs::ScheduleLaws::scheduling), unfolding(crate::specs::Schedule::schedule_of))]
 pub fn check_schedule(schedule: &[u16], n: usize) -> Result<(), Refusal>
     ensures { result ≡ schedule_of schedule.now n }
 {

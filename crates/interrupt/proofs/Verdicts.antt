@@ -13,7 +13,6 @@ use Rattle.machine.specs.Core.{taken, handed_back}
 use Rattle.machine.proofs.Handed.{taken_good}
 use Rattle.std.proofs.Common.{Option, Some, None as Nothing, Ok, Err}
 use Rattle.reasons.specs.Reasons.{Check, good, rows_by}
-use Rattle.reasons.specs.declared.Refusal.{Refusal}
 use Rattle.sheet.specs.declared.Which.{Which}
 use Rattle.reasons.proofs.Rows.{None, good_none, none_at}
 use Rattle.reasons.proofs.Rows.None.{more}
@@ -112,43 +111,6 @@ module _ (main h schedule file : List ℕ) (m : Machine) where
       ap (λ (x : Ended). left (record { outcome = Ok (count_in x.answer.outcome); machine = x.answer.machine }) x.file)
       (went_ran (line_of main h schedule) file m l c g v ec w ev)
       ∙ sym (interrupted_is e)
-
--- ---- the ways of the verdict, in the order of the reasons
-marking-stops : (k : Option Which) (c : Check) (v : Verdict) {x : Fault} → marking k c fine ≡ Err x → marking k c v ≡ Err x
-marking-stops k (Ok done) v e = cc
-marking-stops k (Err y) v e = e
-
-marking-goes : (k : Option Which) (c : Check) (v : Verdict) → marking k c fine ≡ fine → marking k c v ≡ v
-marking-goes k c v e = rw (marking_good k c fine e) refl
-
-module _ (main h schedule : List ℕ) where
-  pub pair_form : {x : Fault} → marking in_handler (form_of h) fine ≡ Err x → Err x ≡ pair_of main h schedule
-  unfolding pair_of
-  pair_form f = sym (marking-stops in_handler (form_of h) _ f)
-
-  pub pair_overlap : {x : Fault} → marking in_handler (form_of h) fine ≡ fine → marking in_main (overlap_of main h) fine ≡ Err x → Err x ≡ pair_of main h schedule
-  unfolding pair_of
-  pair_overlap f o = sym (marking-goes in_handler (form_of h) _ f ∙ marking-stops in_main (overlap_of main h) _ o)
-
-  pub pair_schedule : (n : ℕ) (c : Check) → marking in_handler (form_of h) fine ≡ fine → marking in_main (overlap_of main h) fine ≡ fine
-      → n ≡ length (executions_of main) → c ≡ schedule_of schedule n → marking in_neither c fine ≡ pair_of main h schedule
-  unfolding pair_of
-  pair_schedule n c f o e k = sym (marking-goes in_handler (form_of h) _ f ∙ marking-goes in_main (overlap_of main h) _ o ∙ rw (k, e) refl)
-
-  module _ (lent : ℕ) where
-    pub judged_main : {x : Fault} → marking in_main (check_of main (Some lent) Nothing) fine ≡ Err x → Err x ≡ verdict_of main h schedule lent
-    unfolding verdict_of
-    judged_main e = sym (marking-stops in_main (check_of main (Some lent) Nothing) _ e)
-
-    pub judged_handler : {x : Fault} → marking in_main (check_of main (Some lent) Nothing) fine ≡ fine → marking in_handler (check_of h (Some lent) Nothing) fine ≡ Err x
-        → Err x ≡ verdict_of main h schedule lent
-    unfolding verdict_of
-    judged_handler e f = sym (marking-goes in_main (check_of main (Some lent) Nothing) _ e ∙ marking-stops in_handler (check_of h (Some lent) Nothing) _ f)
-
-    pub judged_pair : marking in_main (check_of main (Some lent) Nothing) fine ≡ fine → marking in_handler (check_of h (Some lent) Nothing) fine ≡ fine
-        → pair_of main h schedule ≡ verdict_of main h schedule lent
-    unfolding verdict_of
-    judged_pair e f = sym (marking-goes in_main (check_of main (Some lent) Nothing) _ e ∙ marking-goes in_handler (check_of h (Some lent) Nothing) _ f)
 
 -- what a call that is not refused can be served with
 pub serve_ready : (main h schedule : List ℕ) (lent : ℕ) (m : Machine) (c : Core) → verdict_of main h schedule lent ≡ fine → c ≡ taken m

@@ -67,6 +67,7 @@ fn marked(mark: Option<Which>, check: Result<(), Refusal>) -> Result<(), Fault>
 }
 
 // Reasons 11 to 13, of two sheets that are not refused themselves.
+#[tactic(auto, unfolding(crate::specs::Interrupt::pair_of))]
 fn judge_pair<'a>(
     main: &'a [u8],
     handler: &'a [u8],
@@ -83,6 +84,7 @@ fn judge_pair<'a>(
 }
 
 // All reasons, in their order.
+#[tactic(auto, unfolding(crate::specs::Interrupt::verdict_of))]
 fn judge<'a>(main: &'a [u8], handler: &'a [u8], schedule: &[u16], lent: usize) -> Result<(), Fault>
     ensures { result ≡ verdict_of main.now handler.now schedule.now lent }
 {

@@ -2,13 +2,14 @@
 -- one another.
 use mathlib.Core.Path.{◌≡◌, refl, ap, ◌∙◌, sym}
 use mathlib.Core.List.{List, [], ◌∷◌, ◌++◌}
-use mathlib.Core.Bool.{Bool, true, false, ◌&&◌, ◌||◌, true≢false, or_assoc, or-false}
+use mathlib.Core.Bool.{Bool, true, false, ◌&&◌, ◌||◌, true≢false}
 use Prim.Native.Nat.{ℕ, zero, suc, ◌+◌, ◌*◌, ◌/◌, ◌%◌, ◌^◌, ◌<◌}
 use native.Mathlib.Omega.{arith}
 use native.Mathlib.Decide.{dec_lt}
 use native.Mathlib.Nat.{mod-eq_of_lt}
-use borrow.Author.Tests.{ltb-false, le-ltb, ne_eqb}
-use lib.Dec.{eqb, ltb}
+use borrow.Author.Tests.{le-ltb, ne_eqb}
+use lib.Dec.{eqb}
+use Rattle.std.proofs.lemmas.Bool.Decides.{nat_tests}
 use Rattle.bits.specs.Bits.{choose}
 use lib.Pow.{split, mod-pow-add}
 use lib.ListN.{get_or-eq_default}
@@ -16,7 +17,7 @@ use Rattle.chip.specs.declared.Word.{Word}
 use Rattle.chip.specs.Glossary.{glossary}
 use Rattle.chip.specs.Glossary.Page.{no_page}
 use Rattle.chip.specs.Single.{is_no_page, lacks_page, out_of_range}
-use Rattle.packing.specs.Packing.{differ, number6, fields_of, spare_of, packed_number, bytes6, some, register_fields, too_large, InRange}
+use Rattle.packing.specs.Packing.{differ, number6, fields_of, spare_of, packed_number, bytes6, some, too_large, InRange}
 
 -- ---- ranges
 pub or_left : (a b : Bool) → (a || b) ≡ false → a ≡ false
@@ -36,10 +37,6 @@ page_small n h = go (dec_lt n 128)
     go (yes l) = l
     go (no l) = absurd (true≢false (sym (ap is_no_page (get_or-eq_default glossary no_page {n = n} (omega arith))) ∙ h))
 
--- three tests, as the code nests them
-pub some-three : (p : ℕ → Bool) (x y z : ℕ) → (p x || p y || p z) ≡ some p (x ∷ y ∷ z ∷ [])
-some-three p x y z = simp (or_assoc, or-false)
-
 -- a field is left idle where bits of it are
 pub idle_differs : (write y : ℕ) → differ (choose write y 0) 0 ≡ (eqb write 0 && differ y 0)
 idle_differs zero y = refl
@@ -57,49 +54,20 @@ every p (x ∷ xs) h = and (or_left (p x) (some p xs) h) (every p xs (or_right (
 -- what packing does not refuse for its opcode or its fields is in range
 pub in_range : (w : Word) → lacks_page w.opcode ≡ false → too_large w ≡ false → InRange w
 unfolding too_large out_of_range
-in_range w n h =
-    let c : Bool = ltb 3 w.code in
-    let p : Bool = ltb 63 w.position in
-    let t : Bool = ltb 31 w.width in
-    let s : Bool = ltb 1 w.select in
-    let k : Bool = ltb 1 w.carry in
-    let l : Bool = ltb 1 w.link in
-    let o : Bool = ltb 1 w.borrow in
-    let r : Bool = some (ltb 63) (register_fields w) in
-    let h₇ : (c || p || t || s || k || l || o || r) ≡ false = or_left (c || p || t || s || k || l || o || r) (ltb 1 w.write) h in
-    let h₆ : (c || p || t || s || k || l || o) ≡ false = or_left (c || p || t || s || k || l || o) r h₇ in
-    let h₅ : (c || p || t || s || k || l) ≡ false = or_left (c || p || t || s || k || l) o h₆ in
-    let h₄ : (c || p || t || s || k) ≡ false = or_left (c || p || t || s || k) l h₅ in
-    let h₃ : (c || p || t || s) ≡ false = or_left (c || p || t || s) k h₄ in
-    let h₂ : (c || p || t) ≡ false = or_left (c || p || t) s h₃ in
-    let h₁ : (c || p) ≡ false = or_left (c || p) t h₂ in
-    let e : Every (ltb 63) (register_fields w) = every (ltb 63) (register_fields w) (or_right (c || p || t || s || k || l || o) r h₇) in
-    record {
-      opcode = page_small w.opcode n;
-      code = below 3 w.code (or_left c p h₁);
-      position = below 63 w.position (or_right c p h₁);
-      width = below 31 w.width (or_right (c || p) t h₂);
-      a = below 63 w.a (first e);
-      b = below 63 w.b (second e);
-      y = below 63 w.y (third e);
-      write = below 1 w.write (or_right (c || p || t || s || k || l || o || r) (ltb 1 w.write) h);
-      select = below 1 w.select (or_right (c || p || t) s h₃);
-      carry = below 1 w.carry (or_right (c || p || t || s) k h₄);
-      link = below 1 w.link (or_right (c || p || t || s || k) l h₅);
-      borrow = below 1 w.borrow (or_right (c || p || t || s || k || l) o h₆);
-    }
-  where
-    first : Every (ltb 63) (register_fields w) → ltb 63 w.a ≡ false
-    first (and a t) = a
-
-    second : Every (ltb 63) (register_fields w) → ltb 63 w.b ≡ false
-    second (and a (and b t)) = b
-
-    third : Every (ltb 63) (register_fields w) → ltb 63 w.y ≡ false
-    third (and a (and b (and y t))) = y
-
-    below : (n x : ℕ) → ltb n x ≡ false → x < n + 1
-    below n x e = omega (arith, ltb-false n x e)
+in_range w n h = record {
+  opcode = page_small w.opcode n;
+  code = grind (arith, nat_tests);
+  position = grind (arith, nat_tests);
+  width = grind (arith, nat_tests);
+  a = grind (arith, nat_tests);
+  b = grind (arith, nat_tests);
+  y = grind (arith, nat_tests);
+  write = grind (arith, nat_tests);
+  select = grind (arith, nat_tests);
+  carry = grind (arith, nat_tests);
+  link = grind (arith, nat_tests);
+  borrow = grind (arith, nat_tests);
+}
 
 -- the fields of any number are in range, if only its opcode is
 pub fields_range : (v : ℕ) → (fields_of v).opcode < 128 → InRange (fields_of v)

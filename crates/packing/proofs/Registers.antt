@@ -1,14 +1,14 @@
 -- Laws of sets of registers, and of the registers that words name.
 use mathlib.Core.Path.{◌≡◌, refl, sym, ap, ap₂, ◌∙◌}
 use mathlib.Core.Bool.{Bool, true, false, not, ◌||◌, or-true}
-use Prim.Native.Nat.{ℕ, zero, suc, ◌/◌, ◌%◌, ◌^◌, ◌<◌, min, max}
-use native.Mathlib.Nat.{div-eq_of_lt, one-mul}
+use Prim.Native.Nat.{ℕ, zero, suc, ◌*◌, ◌/◌, ◌%◌, ◌^◌, ◌<◌, min, max}
+use native.Mathlib.Nat.{div-eq_of_lt, zero-mul, one-mul, mod-eq_of_lt}
 use native.Mathlib.Omega.{arith}
 use borrow.Author.Tests.{ne_eqb, eqb-true, not-false}
 use lib.Dec.{eqb}
 use lib.Pow.{pow_pos, pow-lt, shl-shr}
 use lib.Bits.{bit_and, bit_or, and_lt, or_lt, and_le_l, and_le_r, or_add_and}
-use Rattle.bits.specs.Bits.{bit_of}
+use Rattle.bits.specs.Bits.{bit_of, choose}
 use Rattle.bits.proofs.BitByBit.{bit-lt, bit-and, bit-or, bit_ext, by_flag}
 use Rattle.bits.proofs.Bounds.{choose-lt}
 use Rattle.bits.proofs.Laws.{choose_one}
@@ -80,6 +80,12 @@ union_assoc s t u hs ht hu =
 -- ---- the registers that a word names
 pub only-lt : (r : ℕ) → r < 64 → only r < 2 ^ 64
 only-lt r h = pow-lt h
+
+-- the write bit moved to Y's place: none where it is 0, else Y alone
+pub moved : (bit y : ℕ) → bit < 2 → y < 64 → (bit * 2 ^ y) % 2 ^ 64 ≡ choose bit 0 (only y)
+moved zero y h l = ap (λ (x : ℕ). x % 2 ^ 64) (zero-mul (2 ^ y))
+moved (suc zero) y h l = ap (λ (x : ℕ). x % 2 ^ 64) (one-mul (2 ^ y)) ∙ mod-eq_of_lt (only-lt y l)
+moved (suc (suc n)) y h l = absurd (omega arith)
 
 pub names-lt : (w : Word) → Narrow w → names_of w < 2 ^ 64
 unfolding names_of sources_of destination_of

@@ -26,6 +26,7 @@ pub fn word_number(s: &[u8]) -> u64
 }
 
 // The fields of a word's number.
+#[tactic(auto, unfolding(crate::specs::Packing::fields_of))]
 pub fn fields(v: u64) -> Word
     ensures { result ≡ fields_of v }
 {
@@ -53,6 +54,7 @@ pub fn names_from(n: u32, w: Word) -> bool
 }
 
 // Whether a field is larger than its bits hold. Public for the reader of listings.
+#[tactic(auto, unfolding(crate::specs::Packing::too_large))]
 pub fn too_large(w: Word) -> bool
     ensures { result ≡ too_large w }
 {
@@ -73,6 +75,7 @@ pub fn idle_y(w: Word) -> u32
 }
 
 // Whether Y's field is left idle: not 0 in a word that does not write. Public for the crates above.
+#[tactic(auto, using(crate::proofs::Numbers::idle_differs), unfolding(crate::specs::Packing::left_idle))]
 pub fn left_idle(w: Word) -> bool
     ensures { result ≡ left_idle w }
 {
@@ -133,6 +136,7 @@ pub fn only(r: u32) -> u64
 }
 
 // As sources: A and B.
+#[tactic(auto, unfolding(crate::specs::Registers::sources_of))]
 pub fn sources(w: Word) -> u64
     requires { Narrow w }
     ensures { result ≡ sources_of w }
@@ -141,6 +145,7 @@ pub fn sources(w: Word) -> u64
 }
 
 // As destination: Y, and none where the word does not write. The bit that says so is moved to Y's place, for which no branch is needed.
+#[tactic(auto, using(crate::proofs::Registers::moved), unfolding(crate::specs::Registers::destination_of))]
 pub fn destination(w: Word) -> u64
     requires { Narrow w }
     ensures { result ≡ destination_of w }
@@ -149,6 +154,7 @@ pub fn destination(w: Word) -> u64
 }
 
 // All that it names.
+#[tactic(auto, unfolding(crate::specs::Registers::names_of))]
 pub fn names(w: Word) -> u64
     requires { Narrow w }
     ensures { result ≡ names_of w }
@@ -159,6 +165,7 @@ pub fn names(w: Word) -> u64
 // ---- packing and unpacking
 
 // Packing: the word into the first six bytes of `d`. Where it is refused `d` stays.
+#[tactic(auto, using(crate::proofs::Numbers::in_range), unfolding(crate::specs::Packing::pack_of))]
 pub fn pack(w: Word, d: &mut [u8]) -> Result<(), Refusal>
     ensures d_after { ended result d.new ≡ pack_of w d.old }
     ensures numbers { check_numbers result ≡ check_numbers (first_of (pack_rows w (length d.old))) }
@@ -172,6 +179,7 @@ pub fn pack(w: Word, d: &mut [u8]) -> Result<(), Refusal>
 }
 
 // Unpacking: the word in the first six bytes of `s`.
+#[tactic(auto, unfolding(crate::specs::Packing::unpack_of))]
 pub fn unpack(s: &[u8]) -> Result<Word, Refusal>
     ensures value { result ≡ unpack_of s.now }
     ensures numbers { check_numbers result ≡ check_numbers (first_of (unpack_rows s.now)) }
@@ -186,6 +194,7 @@ pub fn unpack(s: &[u8]) -> Result<Word, Refusal>
 }
 
 // The word that unpacking answers, for a caller that takes one in any case: all fields 0 where it is refused.
+#[tactic(auto, unfolding(crate::specs::Packing::fields_of))]
 pub fn word_or_blank(unpacked: Result<Word, Refusal>) -> Word
     ensures { result ≡ word_or_blank unpacked }
 {

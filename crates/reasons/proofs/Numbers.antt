@@ -5,13 +5,12 @@ use mathlib.Core.Bool.{Bool, true, false}
 use Prim.Native.Nat.{ℕ, zero, suc, ◌+◌, ◌<◌}
 use native.Mathlib.Omega.{arith}
 use lib.ListN.{get_or}
-use Rattle.std.proofs.Common.{Result, Ok, Err}
+use Rattle.std.proofs.Common.{Ok, Err}
 use Rattle.reasons.specs.Reasons.{Row, first_of, rows_by, or_else, number_of, refused, Check, check_numbers}
 use Rattle.reasons.proofs.Rows.{same_reason}
 use Rattle.reasons.specs.declared.Outcome.{Outcome}
 use Rattle.reasons.specs.declared.Reason.{Reason}
 use Rattle.reasons.specs.declared.Reason.TheVariants.{Done, Opcode, Inputs, Short, Version, Header, Length, File, Spare, Register, Start, Form, Overlap, Schedule, Room, Text, Count, Idle}
-use Rattle.reasons.specs.declared.Refusal.{Refusal}
 
 -- ---- reasons
 -- in the order of their numbers
@@ -62,7 +61,7 @@ Telling [] = Unit
 Telling (r ∷ rs) = (0 < number_of r.reason) × Telling rs
 
 pub telling_first : (rows : List Row) → Telling rows → Tells (first_of rows)
-telling_first [] t r p e = absurd (let z : ◌≡◌ {A = ℕ} 0 1 = cc in omega arith)
+telling_first [] t r p e = absurd (cc)
 telling_first (x ∷ xs) t r p e = go x.holds e (telling_first xs t.1 r p)
   where
     go : (b : Bool) → or_else b (refused x.reason x.place) (first_of xs) ≡ refused r p → (first_of xs ≡ refused r p → 0 < number_of r) → 0 < number_of r
@@ -76,8 +75,3 @@ telling_on (r ∷ rs) b t u = (t.0, telling_on rs b t.1 u)
 pub telling_by : (f : ℕ → List Row) (k m : ℕ) → ((j : ℕ) → Telling (f j)) → Telling (rows_by f k m)
 telling_by f k zero g = tt
 telling_by f k (suc m) g = telling_on (f k) (rows_by f (k + 1) m) (g k) (telling_by f (k + 1) m g)
-
--- ---- promises
--- a result that is what a definition gives has the definition's numbers too
-pub also : {A B : Type 0} (f : A → B) {a b : A} → a ≡ b → (a ≡ b) × (f a ≡ f b)
-also f e = (e, ap f e)

@@ -6,7 +6,7 @@ use mathlib.Core.Bool.{Bool, true, false, not, ◌&&◌, true≢false, and_assoc
 use Prim.Native.Nat.{ℕ, zero, suc, ◌+◌, ◌-◌, ◌≤◌, ◌<◌}
 use native.Mathlib.Omega.{arith}
 use native.Mathlib.Decide.{ℕ_discrete}
-use Rattle.reasons.specs.Reasons.{Row, ◌gives◌at◌, first_of, none_hold, rows_by, refused, Check, good, or_else}
+use Rattle.reasons.specs.Reasons.{Row, first_of, none_hold, rows_by, refused, Check, good, or_else}
 use Rattle.std.proofs.Common.{Result, Ok, Err}
 use Rattle.std.specs.Result.{IsErrAnd}
 use Rattle.reasons.specs.declared.Reason.{Reason}
@@ -39,7 +39,7 @@ good_none [] e = none
 good_none (r ∷ rs) e = go r.holds refl e (good_none rs)
   where
     go : (b : Bool) → r.holds ≡ b → or_else b (refused r.reason r.place) (first_of rs) ≡ good → (first_of rs ≡ good → None rs) → None (r ∷ rs)
-    go true h f i = absurd (let z : ◌≡◌ {A = ℕ} 0 1 = cc in omega arith)
+    go true h f i = absurd (cc)
     go false h f i = more h (i f)
 
 pub none_good : (a : List Row) → None a → first_of a ≡ good
@@ -67,6 +67,20 @@ hold_append : (a b : List Row) → none_hold (a ++ b) ≡ (none_hold a && none_h
 hold_append [] b = refl
 hold_append (r ∷ rs) b = rw (hold_append rs b, and_assoc) refl
 
+-- a table after another: what it answers where the first refuses nothing
+abbrev pub and_then : Check → Check → Check
+and_then (Ok done) d = d
+and_then (Err refusal) d = Err refusal
+
+pub first_append : (a b : List Row) → first_of (a ++ b) ≡ and_then (first_of a) (first_of b)
+first_append [] b = refl
+first_append (r ∷ rs) b = go r.holds (first_append rs b)
+  where
+    go : (t : Bool) → first_of (rs ++ b) ≡ and_then (first_of rs) (first_of b)
+        → or_else t (refused r.reason r.place) (first_of (rs ++ b)) ≡ and_then (or_else t (refused r.reason r.place) (first_of rs)) (first_of b)
+    go true e = refl
+    go false e = e
+
 -- a table after one in which no row holds
 pub first_past : (a b : List Row) → None a → first_of (a ++ b) ≡ first_of b
 first_past [] b n = refl
@@ -77,7 +91,7 @@ first_good a b e = first_past a b (good_none a e)
 
 -- a table after one that refuses
 pub first_bad : (a b : List Row) (r : Reason) (p : ℕ) → first_of a ≡ refused r p → first_of (a ++ b) ≡ refused r p
-first_bad [] b r p e = absurd (let z : ◌≡◌ {A = ℕ} 0 1 = cc in omega arith)
+first_bad [] b r p e = absurd (cc)
 first_bad (x ∷ xs) b r p e = go x.holds refl e (first_bad xs b r p)
   where
     go : (t : Bool) → x.holds ≡ t → or_else t (refused x.reason x.place) (first_of xs) ≡ refused r p
@@ -107,7 +121,7 @@ exactly_if rows r p f =
     ∙ rw (f.holds, f.reason, f.place) refl
 
 pub exactly_only : (rows : List Row) (r : Reason) (p : ℕ) → first_of rows ≡ refused r p → First rows r p
-exactly_only [] r p e = absurd (let z : ◌≡◌ {A = ℕ} 0 1 = cc in omega arith)
+exactly_only [] r p e = absurd (cc)
 exactly_only (x ∷ xs) r p e = go x.holds refl e (exactly_only xs r p)
   where
     go : (t : Bool) → x.holds ≡ t → or_else t (refused x.reason x.place) (first_of xs) ≡ refused r p
@@ -133,37 +147,18 @@ module _ (f : ℕ → List Row) where
       let e : count - k ≡ suc (count - (k + 1)) = omega arith in
       rw e refl
 
-  rows_bad : (k count : ℕ) (r : Reason) (p : ℕ) → k < count → first_of (f k) ≡ refused r p → first_of (rows_by f k (count - k)) ≡ refused r p
-  rows_bad k count r p h e = ap first_of (rows_more k count h) ∙ first_bad (f k) (rows_by f (k + 1) (count - (k + 1))) r p e
+  pub rows_bad : (k count : ℕ) (x : Refusal) → k < count → first_of (f k) ≡ Err x → first_of (rows_by f k (count - k)) ≡ Err x
+  rows_bad k count x h e = ap first_of (rows_more k count h) ∙ first_bad (f k) (rows_by f (k + 1) (count - (k + 1))) x.reason x.place e
 
-  rows_good : (k count : ℕ) → k < count → first_of (f k) ≡ good → first_of (rows_by f k (count - k)) ≡ first_of (rows_by f (k + 1) (count - (k + 1)))
+  pub rows_good : (k count : ℕ) → k < count → first_of (f k) ≡ good → first_of (rows_by f k (count - k)) ≡ first_of (rows_by f (k + 1) (count - (k + 1)))
   rows_good k count h e = ap first_of (rows_more k count h) ∙ first_good (f k) (rows_by f (k + 1) (count - (k + 1))) e
 
-  -- with the answer so far, and that of the next test
-  pub rows_hold : (good t : Bool) (k count : ℕ) → k < count → t ≡ none_hold (f k)
-      → (good && none_hold (rows_by f k (count - k))) ≡ (good && t && none_hold (rows_by f (k + 1) (count - (k + 1))))
-  rows_hold good t k count h e =
-      let rest : List Row = rows_by f (k + 1) (count - (k + 1)) in
-      ap (λ (b : Bool). good && b) (ap none_hold (rows_more k count h) ∙ hold_append (f k) rest)
-      ∙ sym (and_assoc good (none_hold (f k)) (none_hold rest)) ∙ ap (λ (b : Bool). good && b && none_hold rest) (sym e)
+  -- whether a row holds in it: in the next one's, or in those after it
+  pub rows_hold : (k count : ℕ) → k < count → none_hold (rows_by f k (count - k)) ≡ (none_hold (f k) && none_hold (rows_by f (k + 1) (count - (k + 1))))
+  rows_hold k count h = ap none_hold (rows_more k count h) ∙ hold_append (f k) (rows_by f (k + 1) (count - (k + 1)))
 
--- what holds at each turn of a loop over the things up to n: the whole table answers as what is left of it, from thing k on
-pub record Scan (f : ℕ → List Row) (whole : List Row) (n k : ℕ) : Type 0 where
-  pub upto : k ≤ n
-  pub same : first_of whole ≡ first_of (rows_by f k (n - k))
-
-pub scan_start : (f : ℕ → List Row) (k m n : ℕ) → k ≤ n → n - k ≡ m → Scan f (rows_by f k m) n k
-scan_start f k m n h e = record { upto = h; same = ap (λ (j : ℕ). first_of (rows_by f k j)) (sym e) }
-
-module _ {f : ℕ → List Row} {whole : List Row} {n k : ℕ} (s : Scan f whole n k) where
-  pub scan_bad : {r : Reason} {p : ℕ} → k < n → first_of (f k) ≡ refused r p → refused r p ≡ first_of whole
-  scan_bad {r} {p} h e = sym (s.same ∙ rows_bad f k n r p h e)
-
-  pub scan_more : k < n → first_of (f k) ≡ good → Scan f whole n (k + 1)
-  scan_more h e = record { upto = omega arith; same = s.same ∙ rows_good f k n h e }
-
-  pub scan_done : n ≤ k → good ≡ first_of whole
-  scan_done h = let e : n - k ≡ 0 = omega arith in sym (s.same ∙ rw e refl)
+-- what a loop over the things asks for, whose invariant is that the whole table answers as what is left of it
+pub ruleset scanning = (rows_bad, rows_good)
 
 -- a part of the table in which no row holds
 pub none_left : (a b : List Row) → None (a ++ b) → None a

@@ -80,10 +80,6 @@ module _ (n : ℕ) (w : Word) (t : State) (x : Shown) (ready : WordReady n w) (s
         status = status_good;
       }
 
--- the word by another name
-pub stepped-word : {w v : Word} {t : State} {l : List ℕ} {x : Shown} → w ≡ v → Stepped w t l x → Stepped v t l x
-stepped-word {w} {v} {t} {l} {x} e s = subst (λ (u : Word). Stepped u t l x) e s
-
 -- ---- a state in range stays in range
 written_small : (b y v : ℕ) (l : List ℕ) (r : ℕ) → ((k : ℕ) → read_at l k < 2 ^ 32) → v < 2 ^ 32 → read_at (choose b l (store_at l y v)) r < 2 ^ 32
 written_small zero y v l r h k = h r
@@ -118,9 +114,6 @@ pub record Running (s l₀ : List ℕ) (g₀ : Going) («from» to : ℕ) (l : L
   pub state : execs (between i to (executions_of s)) (state_of l g) ≡ execs (between «from» to (executions_of s)) (state_of l₀ g₀)
   pub count : g.count + (to - i) ≡ g₀.count + (to - «from»)
   pub status : Good g.core.status
-
-pub running_start : (s l : List ℕ) (g : Going) («from» to : ℕ) → «from» ≤ to → Good g.core.status → Running s l g «from» to l g «from»
-running_start s l g «from» to h good = record { high = h; size = refl; state = refl; count = refl; status = good }
 
 module _ {s l₀ : List ℕ} {g₀ : Going} {«from» to : ℕ} {l : List ℕ} {g : Going} {i : ℕ} (within : to ≤ length (executions_of s)) (r : Running s l₀ g₀ «from» to l g i) where
   pub running_more : (l₁ : List ℕ) (g₁ : Going) → i < to → length l₁ ≡ length l → Went (word_at s i ∷ []) l g l₁ g₁

@@ -11,7 +11,7 @@ use Rattle.machine.specs.declared.Core.{Core}
 use Rattle.machine.specs.declared.Shown.{Shown}
 use Rattle.machine.specs.Core.{taken, handed_back}
 use Rattle.machine.proofs.Handed.{taken_back, taken_good}
-use Rattle.std.proofs.Common.{Some, Result, Ok, Err}
+use Rattle.std.proofs.Common.{Some, Ok, Err}
 use Rattle.std.specs.Prelude.{IsOk}
 use Rattle.std.specs.Result.{is_ok}
 use Rattle.reasons.specs.Reasons.{Check, good, number_of, answer_numbers}

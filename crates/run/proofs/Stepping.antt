@@ -2,11 +2,10 @@
 -- one outcome.
 use mathlib.Core.Path.{◌≡◌, refl, ap, ap₂, sym, subst, ◌∙◌}
 use mathlib.Core.List.{List, [], ◌∷◌}
-use Prim.Native.Nat.{ℕ, zero, suc, ◌^◌, ◌<◌}
+use Prim.Native.Nat.{ℕ, ◌^◌, ◌<◌}
 use native.Mathlib.Omega.{arith}
 use borrow.Author.Tests.{le-ltb}
-use lib.ListN.{length, set, take, drop}
-use Rattle.bits.specs.Bits.{choose}
+use lib.ListN.{length, take, drop}
 use Rattle.machine.specs.declared.Machine.{Machine}
 use Rattle.machine.specs.declared.Core.{Core}
 use Rattle.machine.specs.declared.Status.{Status}
@@ -24,32 +23,18 @@ use Rattle.chip.specs.declared.Word.{Word}
 use Rattle.chip.specs.declared.SingleAnswer.{SingleAnswer}
 use Rattle.chip.specs.Single.{out_of_range, performed, single_of}
 use Rattle.chip.specs.Lists.{read_at, written, shown_of, step_of, execs}
-use Rattle.chip.proofs.Files.{store_is}
 use Rattle.chip.proofs.Single.{single-pins}
 use Rattle.sheet.specs.Sheet.{executions_of, check_of, WordReady}
 use Rattle.sheet.proofs.Positions.{All, all_drop}
 use Rattle.sheet.proofs.Positions.All.{none, more}
 use Rattle.sheet.proofs.Table.{ready}
 use Rattle.run.specs.Run.{entering, Ended, ended, ran, run_of, outcome_after, run_outcome}
-use Rattle.run.specs.Step.{Halted, halted, no_word, standing, ran_as, left_by, performed_on, first_on, unless, one_word_of}
+use Rattle.run.specs.Step.{Halted, halted, no_word, standing, left_by, first_on, unless, one_word_of}
 use Rattle.run.proofs.Laws.{each_ready, outputs_kept}
 use Rattle.run.proofs.Parts.{run-refused, run_is, entering_sane}
 
 -- ---- a word on a file
 module _ (w : Word) (file : List ℕ) (m : Machine) where
-  -- the two ways of the word: Y stored, or not
-  module _ (a : SingleAnswer) (e : a ≡ single_of (standing w file m)) where
-    pub performed-write : (w.write ≡ 0 → ⊥) → halted (ran_as a) (set file w.y a.y) ≡ performed_on w file m
-    performed-write h =
-        ap (halted (ran_as a)) (store_is file w.y a.y ∙ stored w.write h file _) ∙ ap (left_by w file) e
-      where
-        stored : (b : ℕ) → (b ≡ 0 → ⊥) → (x y : List ℕ) → y ≡ choose b x y
-        stored zero h x y = absurd (h refl)
-        stored (suc b) h x y = refl
-
-    pub performed_keep : w.write ≡ 0 → halted (ran_as a) file ≡ performed_on w file m
-    performed_keep z = ap (halted (ran_as a)) (sym (rw z refl)) ∙ ap (left_by w file) e
-
   -- a word that can be run is not refused as a single word
   pub single_runs : {n : ℕ} → WordReady n w → single_of (standing w file m) ≡ performed (shown_of w (entering file m))
   unfolding single_of out_of_range

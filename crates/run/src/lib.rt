@@ -181,6 +181,7 @@ fn no_word(outcome: Result<usize, Refusal>, machine: Machine) -> StepAnswer
 }
 
 // What stands at the chip for a word: its fields, registers A and B, Q and status as they were handed in.
+#[tactic(auto, unfolding(chip::specs::Lists::read_at))]
 fn at_chip(word: Word, file: &[u32], machine: Machine) -> SingleWord
     requires { WordReady (length file.now) word }
     ensures { result ≡ standing word file.now machine }
@@ -204,6 +205,7 @@ fn at_chip(word: Word, file: &[u32], machine: Machine) -> SingleWord
 }
 
 // A word of a sheet that was checked, as a single word; Y is stored only when write is 1.
+#[tactic(auto, unfolding(chip::specs::Lists::store_at))]
 fn perform(word: Word, file: &mut [u32], machine: Machine) -> StepAnswer
     requires { WordReady (length file.old) word }
     ensures { halted result file.new ≡ performed_on word file.old machine }

@@ -64,6 +64,8 @@ pub executions-length : (s : List ℕ) → length (executions_of s) ≡ words_of
 unfolding executions_of
 executions-length s = words-length s 0 (words_of s)
 
+pub ruleset counting = (executions-length, words-length)
+
 -- the next one
 pub executions-next : (s : List ℕ) (i : ℕ) → i < length (executions_of s) → drop i (executions_of s) ≡ word_at s i ∷ drop (i + 1) (executions_of s)
 unfolding executions_of words_from

@@ -1,6 +1,6 @@
 -- The table of a sheet: how a check goes through it, that each reason is given exactly when its condition holds and no earlier one does, and
 -- what a sheet that passed has.
-use mathlib.Core.Path.{◌≡◌, refl, ap, ◌∙◌, sym}
+use mathlib.Core.Path.{◌≡◌, refl, ap, ◌∙◌}
 use mathlib.Core.List.{List, ◌++◌}
 use mathlib.Core.Bool.{Bool, false, ◌||◌}
 use Prim.Native.Nat.{ℕ, ◌+◌, ◌*◌, ◌≤◌, ◌<◌}
@@ -8,15 +8,14 @@ use native.Mathlib.Omega.{arith}
 use borrow.Author.Tests.{lt-ltb, le-ltb, eqb-true, eqb-false, ltb-false, leb-false, not-false}
 use lib.ListN.{length, length-take, length-drop}
 use lib.Dec.{eqb, ltb, leb}
-use Rattle.reasons.specs.Reasons.{Row, Check, good, refused, first_of, none_hold, rows_by}
+use Rattle.reasons.specs.Reasons.{Row, good, refused, first_of, rows_by}
 use Rattle.reasons.specs.declared.Reason.{Reason}
 use Rattle.reasons.specs.declared.Reason.TheVariants.{Short}
-use Rattle.reasons.proofs.Rows.{None, First, good_none, first_bad, first_good, exactly_if, exactly_only, none_at, none_good, none_left, none_right, none_both}
+use Rattle.reasons.proofs.Rows.{None, First, good_none, and_then, first_append, exactly_if, exactly_only, none_at, none_good, none_left, none_right, none_both}
 use Rattle.reasons.proofs.Rows.None.{none, more}
-use Rattle.std.proofs.Common.{Option, Some, None as Nothing, Err}
-use Rattle.reasons.specs.declared.Refusal.{Refusal}
+use Rattle.std.proofs.Common.{Option, Some, None as Nothing}
 use Rattle.packing.specs.Packing.{register_fields, differ}
-use Rattle.sheet.specs.Sheet.{number4, count_of, registers_of, zeros_of, words_of, declared_of, part_of, number_at, word_at, executions_of, fewer, number_rows, word_rows, head_rows, start_rows, rows_beside, check_beside, sheet_rows, check_of, input_of, WordReady, Ready}
+use Rattle.sheet.specs.Sheet.{number4, count_of, registers_of, zeros_of, words_of, declared_of, part_of, number_at, word_at, executions_of, fewer, word_rows, head_rows, start_rows, rows_beside, check_beside, sheet_rows, check_of, input_of, WordReady, Ready}
 use Rattle.packing.proofs.Numbers.{page_small, or_left, or_right, Every, every, fields_range}
 use Rattle.packing.proofs.Numbers.Every.{end, and}
 
@@ -34,44 +33,13 @@ module _ (beside : ℕ) (s : List ℕ) (file start : Option ℕ) where
   abbrev pub tail : List Row
   tail = start_rows start (length (executions_of s))
 
-  pub check_short : length s < 4 → refused Short 0 ≡ check_beside beside s file start
+  pub check_short : length s < 4 → check_beside beside s file start ≡ refused Short 0
   unfolding check_beside rows_beside
   check_short h = rw (lt-ltb (length s) 4 h) refl
 
-  pub check-head : (x : Refusal) → 4 ≤ length s → first_of head ≡ Err x → Err x ≡ check_beside beside s file start
+  pub check-parts : 4 ≤ length s → check_beside beside s file start ≡ and_then (first_of head) (and_then (first_of body) (first_of tail))
   unfolding check_beside rows_beside
-  check-head x h e = rw (le-ltb (length s) 4 h) (sym (first_bad head (body ++ tail) x.reason x.place e))
-
-  pub check-body : (x : Refusal) → 4 ≤ length s → first_of head ≡ good → first_of body ≡ Err x → Err x ≡ check_beside beside s file start
-  unfolding check_beside rows_beside
-  check-body x h e f =
-      rw (le-ltb (length s) 4 h) (sym (first_good head (body ++ tail) e ∙ first_bad body tail x.reason x.place f))
-
-  pub check-tail : 4 ≤ length s → first_of head ≡ good → first_of body ≡ good → first_of tail ≡ check_beside beside s file start
-  unfolding check_beside rows_beside
-  check-tail h e f = rw (le-ltb (length s) 4 h) (sym (first_good head (body ++ tail) e ∙ first_good body tail f))
-
--- what the parts of a check saw, of the header h, its count m and its registers n
-module _ (s : List ℕ) (h n m : ℕ) (eh : h ≡ number4 s) (em : m ≡ count_of h) (en : n ≡ registers_of h) where
-  seen_words : m ≡ words_of s
-  unfolding words_of
-  seen_words = em ∙ ap count_of eh
-
-  seen_declared : n ≡ declared_of s
-  unfolding declared_of
-  seen_declared = en ∙ ap registers_of eh
-
-  pub seen_body : (c : Check) → c ≡ first_of (rows_by (word_rows s n) 0 m) → first_of (rows_by (word_rows s (declared_of s)) 0 (words_of s)) ≡ c
-  seen_body c e = rw (← seen_words, ← seen_declared) (sym e)
-
-pub seen_head : (beside : ℕ) (s : List ℕ) (file : Option ℕ) (h : ℕ) (c : Check) → h ≡ number4 s → c ≡ first_of (head_rows beside (length s) h file)
-    → first_of (head_rows beside (length s) (number4 s) file) ≡ c
-seen_head beside s file h c eh e = rw (← eh) (sym e)
-
--- what the tests of word k saw, of its number v: a row's place plays no part
-pub seen_word : (s : List ℕ) (n k v : ℕ) (b : Bool) → v ≡ number_at s k → b ≡ none_hold (number_rows v n 0) → b ≡ none_hold (word_rows s n k)
-unfolding word_rows
-seen_word s n k v b ev e = e ∙ ap (λ (x : ℕ). none_hold (number_rows x n 0)) ev
+  check-parts h = rw (le-ltb (length s) 4 h) (first_append head (body ++ tail) ∙ ap (and_then (first_of head)) (first_append body tail))
 
 -- the length of a sheet whose header passed
 pub head-length : (beside len h : ℕ) (file : Option ℕ) → first_of (head_rows beside len h file) ≡ good → 4 + 6 * count_of h ≤ len
@@ -79,6 +47,9 @@ head-length beside len h file e = go (good_none (head_rows beside len h file) e)
   where
     go : None (head_rows beside len h file) → 4 + 6 * count_of h ≤ len
     go (more h₁ (more h₂ (more h₃ t))) = omega (arith, eqb-true len (4 + 6 * count_of h + beside * registers_of h) (not-false _ h₃))
+
+-- what the code of a check asks for
+pub ruleset checking = (check_short, check-parts, head-length)
 
 -- ---- Each reason is given exactly when its condition holds and no earlier one does: a check of a sheet answers reason r at place p exactly
 -- where some row of the table gives r at p, its condition holds, and the condition of no row before it does.

@@ -58,6 +58,7 @@ pub fn version(s: &[u8]) -> u32
 }
 
 // How many words a sheet has. Public for the crates above, which have checked the sheet.
+#[tactic(auto, unfolding(crate::specs::Sheet::words_of))]
 pub fn words(s: &[u8]) -> usize
     requires { 4 ≤ length s.now }
     ensures { result ≡ words_of s.now }
@@ -66,6 +67,7 @@ pub fn words(s: &[u8]) -> usize
 }
 
 // How many executions: one for each word. Public for the crates above, which have checked the sheet.
+#[tactic(auto, using(crate::proofs::Positions::counting))]
 pub fn executions(s: &[u8]) -> usize
     requires { 4 ≤ length s.now }
     ensures { result ≡ length (executions_of s.now) }
@@ -74,6 +76,7 @@ pub fn executions(s: &[u8]) -> usize
 }
 
 // How many registers it declares. Public for the crates above, which have checked the sheet.
+#[tactic(auto, unfolding(crate::specs::Sheet::declared_of))]
 pub fn declared(s: &[u8]) -> usize
     requires { 4 ≤ length s.now }
     ensures { result ≡ declared_of s.now }
@@ -104,6 +107,7 @@ pub fn fetch<'a>(main: &'a [u8], handler: &'a [u8], from: Which, index: usize) -
 }
 
 // The number of a word of one of two sheets.
+#[tactic(auto, unfolding(crate::specs::Sheet::number_at))]
 fn number_at<'a>(main: &'a [u8], handler: &'a [u8], from: Which, index: usize) -> u64
     requires { 4 + 6 * index + 6 ≤ length (sheet_of from main.now handler.now) }
     ensures { result ≡ number_at (sheet_of from main.now handler.now) index }
@@ -112,6 +116,7 @@ fn number_at<'a>(main: &'a [u8], handler: &'a [u8], from: Which, index: usize) -
 }
 
 // The fields of a word of one of two sheets: the one way from a sheet's bytes to a word. Public for the crates above, as `fetch` is.
+#[tactic(auto, using(packing::proofs::Registers::narrow))]
 pub fn word_at<'a>(main: &'a [u8], handler: &'a [u8], from: Which, index: usize) -> Word
     requires { 4 + 6 * index + 6 ≤ length (sheet_of from main.now handler.now) }
     ensures { (result ≡ word_at (sheet_of from main.now handler.now) index) × Narrow result }
@@ -181,6 +186,7 @@ fn check_number(v: u64, n: u32, k: usize) -> Result<(), Refusal>
 }
 
 // Reasons 8, 17, 1 and 9 of word k, from the sheet's bytes.
+#[tactic(auto, unfolding(crate::specs::Sheet::word_rows))]
 fn check_word(s: &[u8], n: u32, k: usize) -> Result<(), Refusal>
     requires { 4 + 6 * k + 6 ≤ length s.now }
     ensures { result ≡ first_of (word_rows s.now n k) }
@@ -189,6 +195,7 @@ fn check_word(s: &[u8], n: u32, k: usize) -> Result<(), Refusal>
 }
 
 // The words in order: the first fault of the first word that has one.
+#[tactic(auto, using(reasons::proofs::Rows::scanning))]
 fn first_fault(s: &[u8], count: usize, n: u32) -> Result<(), Refusal>
     requires { 4 + 6 * count ≤ length s.now }
     ensures { result ≡ first_of (rows_by (word_rows s.now n) 0 count) }
@@ -200,6 +207,7 @@ fn first_fault(s: &[u8], count: usize, n: u32) -> Result<(), Refusal>
 }
 
 // Whether word number v has no fault in a sheet of n registers: the tests of `check_number` at once, without a branch for each.
+#[tactic(auto, using(packing::proofs::Numbers::idle_differs, packing::proofs::Registers::or_differs), unfolding(packing::specs::Packing::left_idle))]
 fn sound(v: u64, n: u32) -> bool
     ensures { result ≡ none_hold (number_rows v n 0) }
 {
@@ -210,6 +218,7 @@ fn sound(v: u64, n: u32) -> bool
 }
 
 // Whether no word has a fault. Nearly every sheet is sound, and this loop has one branch a word.
+#[tactic(auto, using(reasons::proofs::Rows::rows_hold), unfolding(crate::specs::Sheet::word_rows))]
 fn all_sound(s: &[u8], count: usize, n: u32) -> bool
     requires { 4 + 6 * count ≤ length s.now }
     ensures { result ≡ none_hold (rows_by (word_rows s.now n) 0 count) }
@@ -223,6 +232,7 @@ fn all_sound(s: &[u8], count: usize, n: u32) -> bool
 }
 
 // The words in order: the first fault of the first word that has one, which is looked for only where there is one.
+#[tactic(auto, using(reasons::proofs::Rows::hold_good))]
 fn check_words(s: &[u8], count: usize, n: u32) -> Result<(), Refusal>
     requires { 4 + 6 * count ≤ length s.now }
     ensures { result ≡ first_of (rows_by (word_rows s.now n) 0 count) }
@@ -234,6 +244,7 @@ fn check_words(s: &[u8], count: usize, n: u32) -> Result<(), Refusal>
 }
 
 // The whole table: 3 to 7, then the words, then 10.
+#[tactic(auto, using(crate::proofs::Table::checking), unfolding(crate::specs::Sheet::words_of, crate::specs::Sheet::declared_of))]
 fn check(beside: usize, s: &[u8], file: Option<usize>, start: Option<usize>) -> Result<(), Refusal>
     requires { beside ≤ 4 }
     ensures { result ≡ check_beside beside s.now file start }
@@ -279,6 +290,7 @@ pub fn check_input(x: &[u8]) -> Result<(), Refusal>
 // ---- the header alone
 
 // The header in the first four bytes of `s`, for a caller that sizes its buffers by it: what follows it is not looked at.
+#[tactic(auto, unfolding(crate::specs::Heading::heading_of))]
 pub fn read_header(s: &[u8]) -> Result<Heading, Refusal>
     ensures value { result ≡ heading_of s.now }
     ensures numbers { check_numbers result ≡ check_numbers (first_of (heading_rows s.now)) }

@@ -21,9 +21,6 @@ serve-last-requires c =
     let p = serve_ready a.main.now a.handler.now a.schedule.now (length a.file.now) a.machine _ (sym c.judge.ensures ∙ c.in_default.is) c.enter.ensures in
     record { ready = p.0; rising = p.1 }
 
-pub leave-requires : goal.leave-requires
-leave-requires c = c.serve-last.ensures.status
-
 pub returns : goal.returns
 returns c =
     let a = c.args in

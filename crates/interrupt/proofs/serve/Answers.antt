@@ -1,5 +1,4 @@
 -- What is left, run and counted from here, ends as the whole does from its start (`Serving`).
-use mathlib.Core.Path.{refl, ◌∙◌}
 use Prim.Native.Nat.{◌≤◌, ◌<◌}
 use lib.ListN.{length, drop}
 use native.Mathlib.Omega.{arith}
@@ -7,15 +6,6 @@ use Rattle.sheet.specs.Sheet.{executions_of}
 use Rattle.interrupt.proofs.Lines.{rising_le}
 use Rattle.interrupt.proofs.Serving.{ready_size, rising_next, turn-room, serving_more, last-room, serving_done}
 use Rattle.interrupt.proofs.serve.Goals as goal
-
-pub executions-n-requires : goal.executions-n-requires
-executions-n-requires c = c.requires.ready.1.long
-
-pub loop-j-init : goal.loop-j-init
-loop-j-init c = record { size = refl; upto = omega arith; rising = c.requires.rising.0; status = c.requires.ready.2; state = refl; count = refl }
-
-pub boundary-b-requires : goal.boundary-b-requires
-boundary-b-requires c = (omega arith)
 
 pub turn-on-requires : goal.turn-on-requires
 turn-on-requires c = let a = c.args in
@@ -27,17 +17,11 @@ turn-on-requires c = let a = c.args in
 pub loop-j-preserved : goal.loop-j-preserved
 loop-j-preserved c = serving_more c.loop-j.invariant _ (omega arith) c.boundary-b.ensures _ _ c.turn-on.auto.file c.turn-on.ensures
 
-pub executions-end-requires : goal.executions-end-requires
-executions-end-requires c = c.requires.ready.0.long
-
 pub span-requires : goal.span-requires
 span-requires c = let a = c.args in
     let l = c.loop-j in
     let n = c.executions-end.ensures in
     let i : l.at ≤ length (executions_of a.main.now) = rising_le _ _ (drop l.j a.schedule.now) l.invariant.rising in record { ready = (ready_size a.main.now l.invariant.size c.requires.ready.0, l.invariant.status); from_le_to = (omega (arith, n), omega (arith, n), omega (arith, n, last-room l.invariant (omega arith) c.requires.rising.1)) }
-
-pub shape_of-file : goal.shape_of-file
-shape_of-file c = c.span.auto.file ∙ c.loop-j.invariant.size
 
 pub returns : goal.returns
 returns c = serving_done c.loop-j.invariant (omega arith) _ _ _ c.executions-end.ensures c.span.ensures

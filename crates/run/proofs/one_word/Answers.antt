@@ -21,7 +21,8 @@ use Rattle.run.proofs.one_word.Goals as goal
 
 pub returns-in-Err : goal.returns-in-Err
 returns-in-Err c =
-    let p = let a = c.args in
+    let a = c.args in
+    let p =
     promised a.sheet.now a.file.now a.machine a.start (read_small a.file.now (λ r. (c.slice_known-1.given r).fits)) (omega (arith, c.well_formed.1.1.0)) _
     (ap (λ (x : StepAnswer). halted x a.file.now) c.no_word.ensures
     ∙ step-refused a.sheet.now a.file.now a.machine a.start _ (sym c.check_start.ensures.value ∙ c.in-Err.is)) in
@@ -32,14 +33,14 @@ executions-requires c = let a = c.args in
     (ready a.sheet.now (length a.file.now) (Some a.start) (sym c.check_start.ensures.value ∙ c.in_default.is)).long
 
 pub leave-requires : goal.leave-requires
-leave-requires c = let a = c.args in
-    subst (λ (x : Core). Good x.status) (sym c.enter.ensures) (taken_good a.machine)
+leave-requires c = subst (λ (x : Core). Good x.status) (sym c.enter.ensures) (taken_good c.args.machine)
 
 pub returns-then-executions-start : goal.returns-then-executions-start
 returns-then-executions-start c =
-    let p = let a = c.args in
+    let a = c.args in
     let s = a.sheet.now in
     let past : length (executions_of s) ≤ a.start = omega (arith, c.executions.ensures, c.if-executions-start.true) in
+    let p =
     promised s a.file.now a.machine a.start (read_small a.file.now (λ r. (c.slice_known-1.given r).fits)) (omega (arith, c.well_formed.1.1.0)) _
     (ap (λ (y : StepAnswer). halted y a.file.now)
     (c.no_word-then-executions-start.ensures ∙ ap (no_word (Ok 0)) (c.leave.ensures ∙ ap handed_back c.enter.ensures))
@@ -63,8 +64,9 @@ perform-requires c = let a = c.args in
 
 pub returns : goal.returns
 returns c =
-    let p = let a = c.args in
+    let a = c.args in
     let s = a.sheet.now in
+    let p =
     promised s a.file.now a.machine a.start (read_small a.file.now (λ r. (c.slice_known-1.given r).fits)) (omega (arith, c.well_formed.1.1.0)) _
     (c.perform.ensures
     ∙ ap (λ (w : Word). performed_on w a.file.now a.machine) c.word_at.ensures.0

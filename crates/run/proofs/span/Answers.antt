@@ -3,11 +3,8 @@ use mathlib.Core.Path.{sym, subst}
 use native.Mathlib.Omega.{arith}
 use Rattle.sheet.specs.Sheet.{sheet_of, Ready}
 use Rattle.sheet.proofs.Positions.{executions-length}
-use Rattle.run.proofs.Laws.{running_start, running_more, running_done}
+use Rattle.run.proofs.Laws.{running_more, running_done}
 use Rattle.run.proofs.span.Goals as goal
-
-pub loop-index-init : goal.loop-index-init
-loop-index-init c = running_start _ _ c.args.going _ _ c.requires.from_le_to.0 c.requires.ready.1
 
 pub advance-at-requires : goal.advance-at-requires
 advance-at-requires c = let s = sheet_of c.args.of c.args.main.now c.args.handler.now in
@@ -15,9 +12,6 @@ advance-at-requires c = let s = sheet_of c.args.of c.args.main.now c.args.handle
 
 pub loop-index-preserved : goal.loop-index-preserved
 loop-index-preserved c = running_more c.requires.from_le_to.1 c.loop-index.invariant _ _ (omega arith) c.advance-at.auto.file c.advance-at.ensures
-
-pub shape_of-file : goal.shape_of-file
-shape_of-file c = c.loop-index.invariant.size
 
 pub returns : goal.returns
 returns c = running_done c.requires.from_le_to.1 c.loop-index.invariant (omega arith)
