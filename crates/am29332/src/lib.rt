@@ -1,5 +1,6 @@
 // The C interface: numbers, slices and plain structs only, for hosts in C and Rust (include/am29332.h). A slice is a pointer and a length
 // on the other side. Each function hands its values on to the entry point of the crate that does the work, and its answer back in numbers.
+// Kept: numbers for reasons and marks, answers with a number beside what they answer, an export for each call: they are the C interface.
 #![tactic(auto)]
 
 ghost use Rattle.std.specs.Prelude.{◌≡◌, ℕ, ◌+◌};

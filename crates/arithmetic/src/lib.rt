@@ -1,5 +1,7 @@
 // Arithmetic instructions (tables 10-1 and 10-2, appendix A). Public for the chip's dispatch, which hands over what stands at the chip and
 // the source that the mnemonic names.
+// Kept: sum and difference, increment and decrement, the two corrections, and subtractions either way round are a page or a formula of the manual
+// each; what they share is in `added`, `corrected` and `borrow_in`.
 #![tactic(auto)]
 
 mod nibbles; // the nibble bits

@@ -13,6 +13,7 @@ fn room() -> [u8; ROOM]
     [0; ROOM]
 }
 
+// Kept: each program has its own buffers, of fixed sizes, so each has its own `main`.
 fn main() {
     let mut text = room();
     let got = io::read_full(0, &mut text);

@@ -5,6 +5,8 @@
 ghost use Rattle.std.specs.Prelude.{◌≡◌, ◌+◌, ◌-◌, ◌*◌, ◌/◌, ◌%◌, ◌^◌, ◌<◌, ◌≤◌, length, count_ones};
 ghost use Rattle.bits.specs.Bits.{bytes4, bytes4_at, selected, bit_of, sign_of, zero_of, merged, not_of, copies, choose, carry_of, overflow_of, up_by, rotated_up, field_mask, masked_of, put_bit, priority_of, parity_of};
 
+// Kept: what is in range (a count of bits, a place, a flag) and the operands of a sum stand in contracts, one by one, and not in types: these are
+// public functions, named in docs/FUNCTIONS.md, and a type would ask more of who calls them.
 // How many bits a byte code selects (tables 3 and 5): eight less than 32 for each byte missing, so that no test is needed for code 0.
 pub fn selected_bits(code: u32) -> u32
     requires { code < 4 }
@@ -173,6 +175,7 @@ pub fn field_mask(p: u32, w: u32) -> u32
     mask(w) << p
 }
 
+// Kept: `merge`, whose mask is that of a number of bits, stays beside it: one line each.
 // s where the mask has ones, u elsewhere.
 pub fn masked(m: u32, s: u32, u: u32) -> u32
     ensures { result ≡ masked_of m s u }
@@ -180,6 +183,7 @@ pub fn masked(m: u32, s: u32, u: u32) -> u32
     (s & m) | (u & !m)
 }
 
+// Kept: set and clear apart. One function with the bit as an argument would be no plainer, since each caller knows which.
 #[tactic(auto, using(crate::proofs::Laws::one_bit))]
 pub fn set_bit(i: u32, x: u32) -> u32
     requires { i < 32 }

@@ -49,6 +49,7 @@ impl Trial<'_> {
         }
     }
 
+    // Kept: this and `interrupted` make two calls with two kinds of answer.
     // The multiplication by itself.
     fn undisturbed(self) {
         let mut file = self.registers();

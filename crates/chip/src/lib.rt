@@ -13,6 +13,7 @@ ghost use Rattle.chip.specs.Single.{lacks_page, out_of_range, refused_as, single
 use machine::{Inputs, Machine, Outputs, Status};
 use reasons::{Reason, Refusal};
 
+// Kept: `Word`, `SingleWord` and the chip's `Inputs` share nine fields and are no common type: C lays the first two out (include/am29332.h).
 // The fields of one word of a sheet.
 #[repr(C)]
 #[derive(Clone, Copy)]
@@ -97,6 +98,7 @@ pub fn lacks_page(n: u32) -> bool
     decode(n).is_err()
 }
 
+// Kept: here and in the families an operation is a number and a `match` goes over them: the manual numbers them, and the run's jump is made of it.
 // The basic instructions by their place: 00 to 1D, then 3C to 47.
 pub fn basic(k: u32, x: Inputs) -> Outputs
     requires { Sound x }
@@ -163,6 +165,7 @@ fn perform(operation: Operation, x: Inputs) -> Outputs
     }
 }
 
+// Kept: seven arguments, since `Word` and `SingleWord` have them in different places.
 // A byte code, a position, a width or a switch that is too large. `|` tests all, without a branch for each.
 #[tactic(auto, unfolding(crate::specs::Single::out_of_range))]
 pub fn out_of_range(

@@ -1,5 +1,6 @@
 // Divide instructions (table 11-1, appendix B), in opcode order; what they share is in `steps`. Unselected bytes of Y come from B,
 // unselected bytes of Q stay. C is the carry out of F, in borrow mode too.
+// Kept: a page of the manual each, signed and unsigned too, since their pages differ in Q, M, S or N.
 #![tactic(auto)]
 
 mod steps;

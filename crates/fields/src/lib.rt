@@ -1,5 +1,6 @@
 // The variable-length instructions, the quarter from 60 on: N-bit shifts (table 13), bit manipulation (tables 14-1 and 14-2), field
 // logical instructions (table 15) and the mask (table 16). Public for the chip's dispatch.
+// Kept: SETBIT and RSTBIT, aligned and non-aligned fields, EXTBIT of data and of the status: a page or a line of a table each, of one line.
 #![tactic(auto)]
 
 mod bit;

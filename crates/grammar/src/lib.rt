@@ -22,6 +22,7 @@ struct Part {
     to: usize,
 }
 
+// Kept: numbers and no bool, since they go into a `Word`, whose fields are C's.
 // Whether a switch is on, and where the line goes on.
 #[derive(Clone, Copy)]
 struct Switch {
@@ -50,6 +51,7 @@ fn is_blank(c: u8) -> bool
 
 // ---- places
 
+// Kept: a line and a place, and no rest of a line: the definitions go by places (specs/Scan.antt).
 // The first place from one on that is not blank.
 fn past_blanks(line: &[u8], at: usize) -> usize
     requires { at ≤ length line.now }

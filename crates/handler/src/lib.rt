@@ -51,6 +51,7 @@ fn not_fixed(w: Word, opcode: u32, write: u32) -> bool
         | (w.borrow != 0)
 }
 
+// Kept: a function for each kind of word, as the definitions of the form are.
 // Word 0 saves the status in s.
 #[tactic(auto, unfolding(crate::specs::Form::saving_status_fault))]
 fn saving_status_fault(saved: u64, w: Word) -> bool
@@ -186,7 +187,7 @@ pub fn overlap<'a>(main: &'a [u8], h: &'a [u8]) -> Result<(), Refusal>
 
 // ---- 13: the schedule
 
-// Boundary j of a schedule: the one place where one is read. Public for the crate above.
+// Boundary j of a schedule: the one place where one is read, so that loops over a schedule count its entries. Public for the crate above.
 pub fn boundary(schedule: &[u16], j: usize) -> usize
     requires { j < length schedule.now }
     ensures { result ≡ get_or schedule.now j 0 }

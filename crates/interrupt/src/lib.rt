@@ -21,6 +21,7 @@ pub struct Fault {
     pub refusal: Refusal,
 }
 
+// Kept: not one type with `run::RunAnswer`, since a fault has a mark besides.
 // What an interrupted run answers: the number of words run, or the fault for which it is refused; Q and status.
 #[derive(Clone, Copy)]
 pub struct Served {

@@ -2,6 +2,7 @@
 // the buffer has a wrong length.
 #![tactic(auto)]
 
+// Kept: each program has its own buffers, of fixed sizes, so each has its own `main`.
 fn main() {
     let mut sheet = [0u8; 24576];
     let got = io::read_full(0, &mut sheet);

@@ -1,5 +1,6 @@
 // Data movement, logical and prioritize instructions (tables 6, 7 and 9). Public for the chip's dispatch, which hands over what stands
 // at the chip and the source that the mnemonic names.
+// Kept: or, xor, and, xnor and the others of one line are a page of the manual each; one function that takes the operation would be no plainer.
 #![tactic(auto)]
 
 ghost use Rattle.std.specs.Prelude.{◌≡◌};

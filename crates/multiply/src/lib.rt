@@ -1,5 +1,6 @@
 // Multiply steps (table 12-1, appendix B): the modified Booth algorithm, two bits a step. A value marked * there has the two extra bits of
 // the internally extended ALU and is a `u64` here. Public for the chip's dispatch.
+// Kept: first step and step, zero and sign extension: a row of the table each; what they share is `partial`.
 #![tactic(auto)]
 
 ghost use Rattle.std.specs.Prelude.{◌≡◌, ◌+◌, ◌-◌, ◌*◌, ◌/◌, ◌%◌, ◌^◌, ◌<◌, ◌≤◌, get_or};

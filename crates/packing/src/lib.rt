@@ -10,19 +10,12 @@ ghost use Rattle.packing.specs.Registers.{only, sources_of, destination_of, name
 use chip::Word;
 use reasons::{Reason, Refusal, refuse_if};
 
-// Six bytes as one number, the first highest.
-fn joined(b0: u8, b1: u8, b2: u8, b3: u8, b4: u8, b5: u8) -> u64
-    ensures { result ≡ b0 * 2 ^ 40 + b1 * 2 ^ 32 + b2 * 2 ^ 24 + b3 * 2 ^ 16 + b4 * 2 ^ 8 + b5 }
-{
-    bits::four_bytes(b0, b1, b2, b3) as u64 * 0x1_0000 + b4 as u64 * 0x100 + b5 as u64
-}
-
 // The six bytes at the start of `s`, as one number. Public for the crates above, which see to the length.
 pub fn word_number(s: &[u8]) -> u64
     requires { 6 ≤ length s.now }
     ensures { result ≡ number6 s.now }
 {
-    joined(s[0], s[1], s[2], s[3], s[4], s[5])
+    u64::from_be_bytes([0, 0, s[0], s[1], s[2], s[3], s[4], s[5]])
 }
 
 // The fields of a word's number.
@@ -127,6 +120,7 @@ fn put_number(v: u64, d: &mut [u8])
 
 // ---- the registers that a word names, as a set
 
+// Kept: a set of registers is a number, as in the definitions (docs/DECISIONS.md), and no type of its own: these are public functions.
 // Register r alone.
 pub fn only(r: u32) -> u64
     requires { r < 64 }

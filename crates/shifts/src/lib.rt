@@ -1,5 +1,6 @@
 // Single-bit shift instructions (tables 8-1 and 8-2). `shift` is the family's dispatch, public for the chip's; the four operations
 // behind it take what stands at the chip, the source that the mnemonic names and the bit that is shifted in.
+// Kept: four operations, and the arithmetic shift of each of two: tables 8-1 and 8-2 have a formula for each.
 #![tactic(auto)]
 
 ghost use Rattle.std.specs.Prelude.{◌≡◌, ◌%◌, ◌^◌, ◌<◌, ◌≤◌, get_or};

@@ -51,7 +51,8 @@ pub fn binary<const N: usize>(x: u64) -> [u8; N]
 }
 
 // A line into a text at a place; where it ends.
-// Kept: a loop and not `copy_from_slice`, which calls C's memmove; the library may call memset only.
+// Kept: a loop and not `copy_from_slice`, which calls C's memmove: the library calls nothing of C (tools/header_check.py). A text and a place, and no
+// writer that holds both: `Added` says of every byte of the lent text what it is, past the place too.
 pub fn put(line: &[u8], text: &mut [u8], at: usize) -> usize
     requires { at + length line.now ≤ length text.old }
     ensures { Added line.now at text.old result text.new }

@@ -16,6 +16,7 @@ fn all(bundle: &[u8], text: &mut [u8; tracing::MOST]) {
     }
 }
 
+// Kept: each program has its own buffers, of fixed sizes, so each has its own `main`.
 fn main() {
     let mut bundle = [0u8; 32768];
     let got = io::read_full(0, &mut bundle);
