@@ -8,7 +8,7 @@ use lib.ListN.{length, drop, length-append}
 use lib.Dec.{ltb}
 use Rattle.reasons.specs.declared.Reason.TheVariants.{Room}
 use Rattle.reasons.specs.declared.Refusal.{Refusal}
-use Rattle.reasons.specs.Reasons.{Row, ◌gives◌at◌, Check, good, refused, check_by, first_of, check_numbers}
+use Rattle.reasons.specs.Reasons.{Row, ◌gives◌at◌, Check, good, refused, first_of, check_numbers}
 use Rattle.reasons.specs.Output.{wrote, wrote_by}
 use Rattle.reasons.proofs.Rows.{first_good, first_bad}
 use Rattle.reasons.proofs.Numbers.{Tells, telling_first, telling_on}
