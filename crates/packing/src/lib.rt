@@ -10,12 +10,13 @@ ghost use Rattle.packing.specs.Registers.{only, sources_of, destination_of, name
 use chip::Word;
 use reasons::{Reason, Refusal, refuse_if};
 
+// Kept: a sum, and not `u64::from_be_bytes` with two zeros before the six, by which a run took an eighth longer for each word (docs/SPEED.md).
 // The six bytes at the start of `s`, as one number. Public for the crates above, which see to the length.
 pub fn word_number(s: &[u8]) -> u64
     requires { 6 ≤ length s.now }
     ensures { result ≡ number6 s.now }
 {
-    u64::from_be_bytes([0, 0, s[0], s[1], s[2], s[3], s[4], s[5]])
+    bits::four_bytes_at(s, 0) as u64 * 0x1_0000 + s[4] as u64 * 0x100 + s[5] as u64
 }
 
 // The fields of a word's number.
