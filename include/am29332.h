@@ -18,9 +18,8 @@
  *     is not followed and NULL will do. What is lent to be changed overlaps
  *     nothing else that the call is lent. Only this can a caller get wrong.
  *   - There is no state but what is handed in, no memory is allotted, no
- *     function of the C library is called but memset (by am29332_list_sheet and
- *     am29332_read_listing alone), and every call returns: calls from several
- *     threads do not meet unless they lend the same memory.
+ *     function of the C library is called, and every call returns: calls from
+ *     several threads do not meet unless they lend the same memory.
  *
  * The status register, as handed in and out:
  *

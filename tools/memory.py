@@ -220,7 +220,8 @@ def tell_read_only(pieces, each):
             section = first.section
             row(section, sum(p.size for p in pieces if p.section == section))
         name = first.symbol if len(group) == 1 else f"{first.symbol} to {last.symbol}"
-        what = shown(first) if len(group) == 1 else f"{len(group)} symbols"
+        table = first.what == "mnemonics" and first.bytes == mnemonics() and not each
+        what = "the whole table" if table else shown(first) if len(group) == 1 else f"{len(group)} symbols"
         print(f"  {name:<32}{sum(p.size for p in group):>10}  {first.what}: {what}, of {', '.join(sorted(first.users)) or 'nothing'}")
     sums = collections.Counter()
     for piece in pieces:
