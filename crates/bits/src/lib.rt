@@ -1,12 +1,12 @@
 // Leaves: what the pages do with the bits of one data word. Each hides its bit trick behind a promise in plain arithmetic, so that
 // nothing above uses a mask on data. They are public for the crates above; a `requires` keeps n, a count of selected bits, in range.
+// Kept: what is in range (a count of bits, a place, a flag) and the operands of a sum stand in contracts, one by one, and not in types: these are
+// public functions, named in docs/FUNCTIONS.md, and a type would ask more of who calls them.
 #![tactic(auto)]
 
 ghost use Rattle.std.specs.Prelude.{◌≡◌, ◌+◌, ◌-◌, ◌*◌, ◌/◌, ◌%◌, ◌^◌, ◌<◌, ◌≤◌, length, count_ones};
 ghost use Rattle.bits.specs.Bits.{bytes4, bytes4_at, selected, bit_of, sign_of, zero_of, merged, not_of, copies, choose, carry_of, overflow_of, up_by, rotated_up, field_mask, masked_of, put_bit, priority_of, parity_of};
 
-// Kept: what is in range (a count of bits, a place, a flag) and the operands of a sum stand in contracts, one by one, and not in types: these are
-// public functions, named in docs/FUNCTIONS.md, and a type would ask more of who calls them.
 // How many bits a byte code selects (tables 3 and 5): eight less than 32 for each byte missing, so that no test is needed for code 0.
 pub fn selected_bits(code: u32) -> u32
     requires { code < 4 }
@@ -175,8 +175,8 @@ pub fn field_mask(p: u32, w: u32) -> u32
     mask(w) << p
 }
 
-// Kept: `merge`, whose mask is that of a number of bits, stays beside it: one line each.
 // s where the mask has ones, u elsewhere.
+// Kept: `merge`, whose mask is that of a number of bits, stays beside it: one line each.
 pub fn masked(m: u32, s: u32, u: u32) -> u32
     ensures { result ≡ masked_of m s u }
 {

@@ -49,8 +49,8 @@ impl Trial<'_> {
         }
     }
 
-    // Kept: this and `interrupted` make two calls with two kinds of answer.
     // The multiplication by itself.
+    // Kept: this and `interrupted` make two calls with two kinds of answer.
     fn undisturbed(self) {
         let mut file = self.registers();
         let answer = run::run(self.main, &mut file, self.start(), 0, 0x1000);

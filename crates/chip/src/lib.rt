@@ -13,8 +13,8 @@ ghost use Rattle.chip.specs.Single.{lacks_page, out_of_range, refused_as, single
 use machine::{Inputs, Machine, Outputs, Status};
 use reasons::{Reason, Refusal};
 
-// Kept: `Word`, `SingleWord` and the chip's `Inputs` share nine fields and are no common type: C lays the first two out (include/am29332.h).
 // The fields of one word of a sheet.
+// Kept: `Word`, `SingleWord` and the chip's `Inputs` share nine fields and are no common type: C lays the first two out (include/am29332.h).
 #[repr(C)]
 #[derive(Clone, Copy)]
 pub struct Word {
@@ -98,8 +98,8 @@ pub fn lacks_page(n: u32) -> bool
     decode(n).is_err()
 }
 
-// Kept: here and in the families an operation is a number and a `match` goes over them: the manual numbers them, and the run's jump is made of it.
 // The basic instructions by their place: 00 to 1D, then 3C to 47.
+// Kept: here and in the families an operation is a number and a `match` goes over them: the manual numbers them, and the run's jump is made of it.
 pub fn basic(k: u32, x: Inputs) -> Outputs
     requires { Sound x }
     ensures { result ≡ get_or basics k SUBRC x }
@@ -165,8 +165,8 @@ fn perform(operation: Operation, x: Inputs) -> Outputs
     }
 }
 
-// Kept: seven arguments, since `Word` and `SingleWord` have them in different places.
 // A byte code, a position, a width or a switch that is too large. `|` tests all, without a branch for each.
+// Kept: seven arguments, since `Word` and `SingleWord` have them in different places.
 #[tactic(auto, unfolding(crate::specs::Single::out_of_range))]
 pub fn out_of_range(
     code: u32,

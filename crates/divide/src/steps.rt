@@ -51,8 +51,8 @@ pub fn step_link(x: Inputs) -> u32
     bits::choose(x.select, x.link, x.status.l)
 }
 
-// Kept: `shifts` has the same line under a definition of its own pages; a leaf for both would be under neither.
 // v upshifted by one bit on the data word, the bit f shifted in.
+// Kept: `shifts` has the same line under a definition of its own pages; a leaf for both would be under neither.
 pub fn shift_up(v: u32, f: u32) -> u32
     requires { f < 2 }
     ensures { result ≡ upshifted v f % 2 ^ 32 }

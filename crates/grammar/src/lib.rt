@@ -22,8 +22,8 @@ struct Part {
     to: usize,
 }
 
-// Kept: numbers and no bool, since they go into a `Word`, whose fields are C's.
 // Whether a switch is on, and where the line goes on.
+// Kept: numbers and no bool, since they go into a `Word`, whose fields are C's.
 #[derive(Clone, Copy)]
 struct Switch {
     on: u32,
@@ -51,8 +51,8 @@ fn is_blank(c: u8) -> bool
 
 // ---- places
 
-// Kept: a line and a place, and no rest of a line: the definitions go by places (specs/Scan.antt).
 // The first place from one on that is not blank.
+// Kept: a line and a place, and no rest of a line: the definitions go by places (specs/Scan.antt).
 fn past_blanks(line: &[u8], at: usize) -> usize
     requires { at ≤ length line.now }
     ensures { result ≡ start_of line.now at }

@@ -51,8 +51,8 @@ fn not_fixed(w: Word, opcode: u32, write: u32) -> bool
         | (w.borrow != 0)
 }
 
-// Kept: a function for each kind of word, as the definitions of the form are.
 // Word 0 saves the status in s.
+// Kept: a function for each kind of word, as the definitions of the form are.
 #[tactic(auto, unfolding(crate::specs::Form::saving_status_fault))]
 fn saving_status_fault(saved: u64, w: Word) -> bool
     requires { Narrow w }

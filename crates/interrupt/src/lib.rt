@@ -21,8 +21,8 @@ pub struct Fault {
     pub refusal: Refusal,
 }
 
-// Kept: not one type with `run::RunAnswer`, since a fault has a mark besides.
 // What an interrupted run answers: the number of words run, or the fault for which it is refused; Q and status.
+// Kept: not one type with `run::RunAnswer`, since a fault has a mark besides.
 #[derive(Clone, Copy)]
 pub struct Served {
     pub outcome: Result<usize, Fault>,

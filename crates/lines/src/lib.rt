@@ -7,8 +7,8 @@ ghost use Rattle.std.specs.Fn.{FnReturnsAt};
 ghost use Rattle.std.proofs.Common.{lit<};
 ghost use Rattle.lines.specs.Lines.{joined_of, number_of, number_at, filled_of, TakenAs, counted_of, Tallied};
 
-// Kept: `first` is 0 and no Option: `counted` promises it so (`counted_of`).
 // How many cases were tried and missed, and the number of the first that was missed, counted from 1; 0 if none was.
+// Kept: `first` is 0 and no Option: `counted` promises it so (`counted_of`).
 #[derive(Clone, Copy, Default)]
 pub struct Tally {
     pub cases: u32,
@@ -121,8 +121,8 @@ pub fn numbers<T: Listed>(list: &[u8], to: &mut [T]) -> usize
 // Past this many lines the rest is not read.
 pub const MOST: u32 = 1000000;
 
-// Kept: a bool, since the line is the caller's.
 // The next line of standard input; whether there was a whole one. No promise can speak of what is read.
+// Kept: a bool, since the line is the caller's.
 pub fn read(line: &mut [u8]) -> bool {
     io::read_full(0, line) == line.len()
 }
@@ -162,8 +162,8 @@ pub fn tallied<F: Fn(&[u8]) -> bool>(line: &mut [u8], right: F) -> Tally
     tally
 }
 
-// Kept: no Display, here and in the programs: they print by the kit's `io::write_all`, as docs/PROMISES.md counts it, which formats nothing.
 // A tally's line.
+// Kept: no Display, here and in the programs: they print by the kit's `io::write_all`, as docs/PROMISES.md counts it, which formats nothing.
 pub fn print_tally(tally: Tally) {
     io::print_decimal(1, tally.cases as u64);
     io::write_all(1, b" cases, ");

@@ -59,8 +59,8 @@ fn put_switch(on: u32, name: &[u8], text: &mut [u8], at: usize) -> usize
     text::put(name, text, at)
 }
 
-// Kept: five calls, since a loop over five pairs would be no plainer.
 // The names of the switches that are on.
+// Kept: five calls, since a loop over five pairs would be no plainer.
 fn put_switches(w: Word, text: &mut [u8], at: usize) -> usize
     requires { at + length (switches_of w) ≤ length text.old }
     ensures { Added (switches_of w) at text.old result text.new }

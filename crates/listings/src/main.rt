@@ -20,8 +20,8 @@ const MOST: usize = 1000000;
 
 // ---- calls
 
-// Kept: these two, and the two kinds of case below, differ in call, letter and what follows; one function over both would be no plainer.
 // A sheet listed; what is written fits the buffer.
+// Kept: these two, and the two kinds of case below, differ in call, letter and what follows; one function over both would be no plainer.
 fn listed(sheet: &[u8], text: &mut [u8]) -> Result<usize, Refusal>
     ensures { IfOk result (λ n. n ≤ length text.old) }
 {

@@ -43,10 +43,10 @@ pub struct Core {
     pub status: Status,
 }
 
-// Kept: that it is in range (`Sound`) stands in the contract of each page and not in this type. The pages are public functions, named in
-// docs/FUNCTIONS.md, and some take what need not be in range; a type would ask more of who calls those. So it is with `Good` of a status.
 // What a word meets: its byte code I8 I7, position and width, macro select, carry and link, borrow; the A and B inputs; Q and
 // the status register.
+// Kept: that it is in range (`Sound`) stands in the contract of each page and not in this type. The pages are public functions, named in
+// docs/FUNCTIONS.md, and some take what need not be in range; a type would ask more of who calls those. So it is with `Good` of a status.
 #[derive(Clone, Copy)]
 pub struct Inputs {
     pub code: u32,
@@ -62,8 +62,8 @@ pub struct Inputs {
     pub status: Status,
 }
 
-// Kept: pages that change one field name all three; `..o` would save a word.
 // What it leaves: the Y bus, Q and the status register.
+// Kept: pages that change one field name all three; `..o` would save a word.
 #[derive(Clone, Copy)]
 pub struct Outputs {
     pub y: u32,
@@ -86,8 +86,8 @@ impl Machine {
         Machine { q: 0, status: 0 }
     }
 
-    // Kept: `enter` and `leave` and no From: they are named in docs/PROMISES.md, and `leave` asks that the status is in range.
     // Taken in: bits 13, 14, 15 and 23 of the status are ignored.
+    // Kept: `enter` and `leave` and no From: they are named in docs/PROMISES.md, and `leave` asks that the status is in range.
     pub fn enter(self) -> Core
         ensures { result ≡ taken self }
     {

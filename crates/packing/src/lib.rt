@@ -10,8 +10,8 @@ ghost use Rattle.packing.specs.Registers.{only, sources_of, destination_of, name
 use chip::Word;
 use reasons::{Reason, Refusal, refuse_if};
 
-// Kept: a sum, and not `u64::from_be_bytes` with two zeros before the six, by which a run took an eighth longer for each word (docs/SPEED.md).
 // The six bytes at the start of `s`, as one number. Public for the crates above, which see to the length.
+// Kept: a sum, and not `u64::from_be_bytes` with two zeros before the six, by which a run took an eighth longer for each word (docs/SPEED.md).
 pub fn word_number(s: &[u8]) -> u64
     requires { 6 ≤ length s.now }
     ensures { result ≡ number6 s.now }
@@ -121,8 +121,8 @@ fn put_number(v: u64, d: &mut [u8])
 
 // ---- the registers that a word names, as a set
 
-// Kept: a set of registers is a number, as in the definitions (docs/DECISIONS.md), and no type of its own: these are public functions.
 // Register r alone.
+// Kept: a set of registers is a number, as in the definitions (docs/DECISIONS.md), and no type of its own: these are public functions.
 pub fn only(r: u32) -> u64
     requires { r < 64 }
     ensures { result ≡ only r }

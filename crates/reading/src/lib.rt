@@ -51,8 +51,8 @@ impl<'a> Iterator for Lines<'a> {
 
 // ---- reasons
 
-// Kept: `sheet::check_opening` has these two rows of a header in bytes, which has zero bits besides.
 // Reasons 4 and 5 of the first line.
+// Kept: `sheet::check_opening` has these two rows of a header in bytes, which has zero bits besides.
 fn check_first(head: Head) -> Result<(), Refusal>
     ensures { result ≡ first_of (head_rows (Some head)) }
 {

@@ -110,8 +110,8 @@ fn advance<'a>(
     }
 }
 
-// Kept: that the sheet was accepted (`Ready`) and the register file are arguments of each: public functions, and the paper's lent slice of `u32`.
 // The executions from `from` up to `to` of one of two sheets, counted as they run. Public for the crate above, which has checked both sheets.
+// Kept: that the sheet was accepted (`Ready`) and the register file are arguments of each: public functions, and the paper's lent slice of `u32`.
 pub fn span<'a>(
     main: &'a [u8],
     handler: &'a [u8],

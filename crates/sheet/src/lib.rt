@@ -35,9 +35,9 @@ fn header(s: &[u8]) -> u32
     bits::four_bytes_at(s, 0)
 }
 
+// The word count of a header.
 // Kept: version, word count and register count are functions of the header's number, as the definitions are; a type round it would be no plainer.
 // That there is a header, and that the words are within the bytes, stand in contracts: public functions (docs/FUNCTIONS.md) would ask more by a type.
-// The word count of a header.
 fn count(h: u32) -> usize
     ensures { result ≡ count_of h }
 {
@@ -96,9 +96,9 @@ fn part(s: &[u8], index: usize) -> &[u8]
     &s[from..to]
 }
 
-// Kept: two lent sheets and which of them is meant, as the paper names the form (docs/DECISIONS.md).
 // The six bytes of a word of one of two sheets, the main list's or the handler's: the only way a run gets a word. Public for the crates
 // above, which have checked both sheets.
+// Kept: two lent sheets and which of them is meant, as the paper names the form (docs/DECISIONS.md).
 pub fn fetch<'a>(main: &'a [u8], handler: &'a [u8], from: Which, index: usize) -> &'a [u8]
     requires { 4 + 6 * index + 6 ≤ length (sheet_of from main.now handler.now) }
     ensures { result.now ≡ part_of (sheet_of from main.now handler.now) index }

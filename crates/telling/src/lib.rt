@@ -152,14 +152,14 @@ fn shown(answer: Result<usize, Refusal>, counted: &[u8], buffer: &mut [u8]) -> u
     }
 }
 
-// Kept: a number, which is what the kit's `io::write_all` takes.
 // Where an answer of the assembler goes: a sheet to standard output, a refusal's line, which is no sheet, to standard error.
+// Kept: a number, which is what the kit's `io::write_all` takes.
 fn stream(answer: Result<usize, Refusal>) -> i32 {
     if answer.is_ok() { 1 } else { 2 }
 }
 
-// Kept: this and `write_sheet` are two programs, with a call, a name for places and a stream each.
 // The listing of a sheet, or why it has none, to standard output, by way of a buffer.
+// Kept: this and `write_sheet` are two programs, with a call, a name for places and a stream each.
 pub fn write_listing(sheet: &[u8], text: &mut [u8])
     requires { 256 ≤ length text.old }
 {
