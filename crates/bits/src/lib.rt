@@ -176,14 +176,14 @@ pub fn field_mask(p: u32, w: u32) -> u32
 }
 
 // s where the mask has ones, u elsewhere.
-// Kept: `merge`, whose mask is that of a number of bits, stays beside it: one line each.
+// Kept: `merge` stays beside it, by the same expression under a definition of its own, of a number of bits.
 pub fn masked(m: u32, s: u32, u: u32) -> u32
     ensures { result ≡ masked_of m s u }
 {
     (s & m) | (u & !m)
 }
 
-// Kept: set and clear apart. One function with the bit as an argument would be no plainer, since each caller knows which.
+// Kept: set and clear apart. SETBIT and RSTBIT, which call them, know which; with the bit as an argument each would be a test longer.
 #[tactic(auto, using(crate::proofs::Laws::one_bit))]
 pub fn set_bit(i: u32, x: u32) -> u32
     requires { i < 32 }

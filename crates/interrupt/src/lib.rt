@@ -22,7 +22,7 @@ pub struct Fault {
 }
 
 // What an interrupted run answers: the number of words run, or the fault for which it is refused; Q and status.
-// Kept: not one type with `run::RunAnswer`, since a fault has a mark besides.
+// Kept: beside `run::RunAnswer`. One type with a parameter for what refuses would be longer wherever either is named.
 #[derive(Clone, Copy)]
 pub struct Served {
     pub outcome: Result<usize, Fault>,
@@ -61,10 +61,7 @@ impl Served {
 fn marked(mark: Option<Which>, check: Result<(), Refusal>) -> Result<(), Fault>
     ensures { result ≡ marking mark check fine }
 {
-    match check {
-        Ok(()) => Ok(()),
-        Err(refusal) => Err(Fault { mark, refusal }),
-    }
+    check.map_err(|refusal| Fault { mark, refusal })
 }
 
 // Reasons 11 to 13, of two sheets that are not refused themselves.

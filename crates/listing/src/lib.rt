@@ -60,7 +60,7 @@ fn put_switch(on: u32, name: &[u8], text: &mut [u8], at: usize) -> usize
 }
 
 // The names of the switches that are on.
-// Kept: five calls, since a loop over five pairs would be no plainer.
+// Kept: five calls, in the order of the line; five pairs of a number and a name, and a loop over them, would be longer.
 fn put_switches(w: Word, text: &mut [u8], at: usize) -> usize
     requires { at + length (switches_of w) ≤ length text.old }
     ensures { Added (switches_of w) at text.old result text.new }

@@ -63,7 +63,7 @@ fn print_number(n: u64) {
 
 // Letter, reason, place, bytes written, hash of those looked at.
 fn print_answer(letter: u8, answer: Result<usize, Refusal>, looked: &[u8]) {
-    let outcome = reasons::numbered_check(answer.map(|_| ()));
+    let outcome = reasons::numbered_check(answer);
     io::write_all(1, &[letter, b' ']);
     io::write_all(1, &text::decimal::<2>(outcome.reason as u64));
     io::write_all(1, b" ");
@@ -130,7 +130,7 @@ fn answer_text(text: &[u8], sheet: &mut [u8], room: &mut [u8])
 fn number_at(header: &[u8], at: usize) -> usize
     requires { at + 4 ≤ length header.now }
 {
-    bits::four_bytes(header[at], header[at + 1], header[at + 2], header[at + 3]) as usize
+    bits::four_bytes_at(header, at) as usize
 }
 
 // One case, with as much of the buffer lent as its header says.

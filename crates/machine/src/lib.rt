@@ -63,7 +63,7 @@ pub struct Inputs {
 }
 
 // What it leaves: the Y bus, Q and the status register.
-// Kept: pages that change one field name all three; `..o` would save a word.
+// Kept: pages name all three fields, as their definitions do; `..o` would leave one of them out of sight.
 #[derive(Clone, Copy)]
 pub struct Outputs {
     pub y: u32,

@@ -11,7 +11,7 @@ use chip::Word;
 use reasons::{Reason, Refusal, refuse_if};
 
 // The six bytes at the start of `s`, as one number. Public for the crates above, which see to the length.
-// Kept: a sum, and not `u64::from_be_bytes` with two zeros before the six, by which a run took an eighth longer for each word (docs/SPEED.md).
+// Kept: a sum, and not `u64::from_be_bytes` with two zeros before the six, by which a run took an eighth longer for each word.
 pub fn word_number(s: &[u8]) -> u64
     requires { 6 ≤ length s.now }
     ensures { result ≡ number6 s.now }

@@ -141,10 +141,7 @@ fn bad_header(h: u32) -> bool
 fn lends_fewer(file: Option<usize>, n: usize) -> bool
     ensures { result ≡ fewer file n }
 {
-    match file {
-        None => false,
-        Some(lent) => lent < n,
-    }
+    file.is_some_and(|lent| lent < n)
 }
 
 // Reason 10: a start is given and lies above n.
