@@ -1,14 +1,13 @@
--- Places in a line: the first byte from a place on that does not pass a test, looked for byte by byte.
+-- Places in a line: the first byte from a place on that does not pass a test.
 use mathlib.Core.Path.{◌≡◌, refl, ap, ◌∙◌}
 use mathlib.Core.List.{List, [], ◌∷◌}
 use mathlib.Core.Bool.{Bool, true, false, cond}
-use Prim.Native.Nat.{ℕ, suc, ◌+◌, ◌-◌, ◌≤◌, ◌<◌}
-use native.Mathlib.Numerals.{add-one}
+use Prim.Native.Nat.{ℕ, suc, ◌+◌, ◌-◌, ◌≤◌}
 use native.Mathlib.Omega.{arith}
 use borrow.Author.Tests.{eqb-true, eqb-false, eq-eqb, ne_eqb}
 use lib.Dec.{eqb}
-use lib.ListN.{length, get_or, take, drop, drop_of_length-le, length-drop}
-use lib.Seq.{drop-cons, take-length}
+use lib.ListN.{length, take, drop, length-drop}
+use lib.Seq.{take-length}
 use Rattle.std.specs.List.{prefix_len, take_while}
 use Rattle.std.proofs.lemmas.List.Folds.{length-prefix_len}
 use Rattle.grammar.specs.declared.Part.{Part}
@@ -33,30 +32,6 @@ pub counted : (f : ℕ → Bool) (l : List ℕ) (at : ℕ) {n : ℕ} → n ≡ l
 counted f l at e =
     ap (λ (n : ℕ). at + n)
     (e ∙ ap (λ (r : List ℕ). length (take_while f r)) (rest_is at l) ∙ length-prefix_len f (drop at l) ∙ leading_is f (drop at l))
-
--- ---- looked for byte by byte
--- what holds at each turn: the bytes between the two places pass, so that both lead to the same end
-pub record Passing (f : ℕ → Bool) (l : List ℕ) (at k : ℕ) : Type 0 where
-  pub upto : k ≤ length l
-  pub end : at + leading f (drop at l) ≡ k + leading f (drop k l)
-
--- from the first place on
-pub passing-start : (f : ℕ → Bool) (l : List ℕ) (at : ℕ) → at ≤ length l → Passing f l at at
-passing-start f l at h = record { upto = h; end = refl }
-
-module _ {f : ℕ → Bool} {l : List ℕ} {at k : ℕ} (p : Passing f l at k) where
-  -- one byte more
-  pub passing-more : k < length l → f (get_or l k 0) ≡ true → Passing f l at (k + 1)
-  passing-more h e =
-      let s : leading f (drop k l) ≡ 1 + leading f (drop (k + 1) l) = rw (add-one, drop-cons l k 0 h, e) (omega arith) in
-      record { upto = omega arith; end = omega arith }
-
-  -- the answer: a byte that does not pass, or the end of the line
-  pub passing_here : k < length l → f (get_or l k 0) ≡ false → k ≡ at + leading f (drop at l)
-  passing_here h e = let s : leading f (drop k l) ≡ 0 = rw (drop-cons l k 0 h, e) in omega arith
-
-  pub passing_done : length l ≤ k → k ≡ at + leading f (drop at l)
-  passing_done h = let s : leading f (drop k l) ≡ 0 = rw (drop_of_length-le l h) in omega arith
 
 -- ---- places within the line
 -- no more bytes pass than there are
