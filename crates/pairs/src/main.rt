@@ -27,6 +27,8 @@
 // pairs, and how many is what is asked of them. The stored output is the independent program's (oracle/README.md).
 #![tactic(auto)]
 
+ghost use Rattle.std.specs.Prelude.{◌≤◌};
+
 use lines::print_word;
 use machine::Machine;
 use run::RunAnswer;
@@ -339,6 +341,7 @@ fn after_division(sheet: &[u8], pair: Pair, status: u32) -> [u8; 2] {
 // How many dividends of one byte, with these bytes after their division by 0, are counted.
 fn over_zero<C: Fn(i8, [u8; 2]) -> bool>(sheet: &[u8], status: u32, counts: C) -> usize
     requires { C.IsAlwaysCallable counts }
+    ensures { result ≤ 256 }
 {
     (i8::MIN..=i8::MAX)
         .filter(|x| {
