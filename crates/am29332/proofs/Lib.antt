@@ -1,2 +1,3 @@
 -- These proofs assume nothing.
 pub mod One
+pub mod Writing

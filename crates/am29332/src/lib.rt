@@ -182,6 +182,7 @@ pub extern "C" fn am29332_check_handler(sheet: &[u8]) -> Outcome
 }
 
 // A sheet as text that people read, at the start of a lent buffer.
+#[tactic(auto, using(crate::proofs::Writing::told))]
 #[unsafe(no_mangle)]
 pub extern "C" fn am29332_list_sheet(sheet: &[u8], text: &mut [u8]) -> Wrote
     ensures { leaves result text.new ≡ wrote_numbers (list_of sheet.now text.old) }
@@ -194,6 +195,7 @@ pub extern "C" fn am29332_list_sheet(sheet: &[u8], text: &mut [u8]) -> Wrote
 }
 
 // Text that people wrote as a sheet, at the start of a lent buffer.
+#[tactic(auto, using(crate::proofs::Writing::told))]
 #[unsafe(no_mangle)]
 pub extern "C" fn am29332_read_listing(text: &[u8], sheet: &mut [u8]) -> Wrote
     ensures { leaves result sheet.new ≡ wrote_numbers (read_of text.now sheet.old) }
