@@ -89,6 +89,14 @@ top-zero n x = scaled (x % 2 ^ n) (2 ^ (32 - n)) (pow_pos (32 - n))
     scaled (suc y) P h = ne_eqb (suc y * P) 0 (λ (e : suc y * P ≡ 0). omega arith) ∙ sym (ne_eqb (suc y) 0 (λ (e : suc y ≡ 0). omega arith))
 
 -- the two parts of a word that is rotated, exchanged
+pub rotated_parts : (k x : ℕ) → k ≤ 32 → x < 2 ^ 32 → bit_or ((x * 2 ^ k) % 2 ^ 32) (x / 2 ^ (32 - k)) ≡ rotated_up k x
+unfolding rotated_up
+rotated_parts k x h hx =
+    let e : k + (32 - k) ≡ 32 = omega arith in
+    ap (λ (y : ℕ). bit_or y (x / 2 ^ (32 - k))) (shl_law k x h)
+    ∙ or_shifted (x % 2 ^ (32 - k)) k (x / 2 ^ (32 - k)) (shr_lt k (32 - k) (subst (λ (m : ℕ). x < 2 ^ m) (sym e) hx))
+
+-- and by the language's rotation
 pub rotate_law : (k x : ℕ) → k < 32 → x < 2 ^ 32 → rotate_left w32 x k ≡ rotated_up k x
 unfolding rotated_up
 rotate_law zero x h hx =
@@ -97,11 +105,9 @@ rotate_law zero x h hx =
     ap₂ bit_or up down ∙ or_self x ∙ omega arith
 rotate_law (suc j) x h hx =
     let k : ℕ = suc j in
-    let e : k + (32 - k) ≡ 32 = omega arith in
     let m : k % 32 ≡ k = mod-eq_of_lt h in
     let n : (32 - k) % 32 ≡ 32 - k = mod-eq_of_lt (omega arith) in
-    rw (m, n) (ap (λ (y : ℕ). bit_or y (x / 2 ^ (32 - k))) (shl_law k x (omega arith))
-    ∙ or_shifted (x % 2 ^ (32 - k)) k (x / 2 ^ (32 - k)) (shr_lt k (32 - k) (subst (λ (m : ℕ). x < 2 ^ m) (sym e) hx)))
+    rw (m, n) (rotated_parts k x (omega arith) hx)
 
 -- the leading zeros of a word cut to n bits, as 32 bits and as n
 pub leading_zeros : (n x : ℕ) → n ≤ 32 → count_leading_zeros 32 (x % 2 ^ n) ≡ count_leading_zeros n (x % 2 ^ n) + (32 - n)

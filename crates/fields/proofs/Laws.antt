@@ -62,6 +62,18 @@ down_lt k s f hs = by_flag (λ (f : ℕ). s / 2 ^ k + f * (2 ^ 32 - 2 ^ (32 - k)
     all = omega (arith, low, top, one-mul (2 ^ 32 - 2 ^ (32 - k)))
 
 -- ---- 64 bits rotated up by k: the two parts change places
+pub pair_parts : (k v : ℕ) → k ≤ 64 → v < 2 ^ 64 → bit_or ((v * 2 ^ k) % 2 ^ 64) (v / 2 ^ (64 - k)) ≡ rotated_pair k v
+unfolding rotated_pair
+pair_parts k v h hv =
+    let e : (64 - k) + k ≡ 64 = omega arith in
+    let f : k + (64 - k) ≡ 64 = omega arith in
+    let up : (v * 2 ^ k) % 2 ^ 64 ≡ v % 2 ^ (64 - k) * 2 ^ k =
+    subst (λ (m : ℕ). (v * 2 ^ k) % 2 ^ m ≡ v % 2 ^ (64 - k) * 2 ^ k) e
+    (mod-pow-add (v * 2 ^ k) (64 - k) k ∙ ap₂ (λ (q r : ℕ). q % 2 ^ (64 - k) * 2 ^ k + r) (shl-shr v k) (mul-mod_left v (2 ^ k)) ∙ add-zero _) in
+    ap (λ (y : ℕ). bit_or y (v / 2 ^ (64 - k))) up
+    ∙ or_shifted (v % 2 ^ (64 - k)) k (v / 2 ^ (64 - k)) (shr_lt k (64 - k) (subst (λ (m : ℕ). v < 2 ^ m) (sym f) hv))
+
+-- and by the language's rotation
 pub pair_law : (k v : ℕ) → k < 64 → v < 2 ^ 64 → rotate_left w64 v k ≡ rotated_pair k v
 unfolding rotated_pair
 pair_law zero v h hv =
@@ -70,15 +82,9 @@ pair_law zero v h hv =
     ap₂ bit_or up down ∙ or_self v ∙ omega arith
 pair_law (suc j) v h hv =
     let k : ℕ = suc j in
-    let e : (64 - k) + k ≡ 64 = omega arith in
-    let f : k + (64 - k) ≡ 64 = omega arith in
     let m : k % 64 ≡ k = mod-eq_of_lt h in
     let n : (64 - k) % 64 ≡ 64 - k = mod-eq_of_lt (omega arith) in
-    let up : (v * 2 ^ k) % 2 ^ 64 ≡ v % 2 ^ (64 - k) * 2 ^ k =
-    subst (λ (m : ℕ). (v * 2 ^ k) % 2 ^ m ≡ v % 2 ^ (64 - k) * 2 ^ k) e
-    (mod-pow-add (v * 2 ^ k) (64 - k) k ∙ ap₂ (λ (q r : ℕ). q % 2 ^ (64 - k) * 2 ^ k + r) (shl-shr v k) (mul-mod_left v (2 ^ k)) ∙ add-zero _) in
-    rw (m, n) (ap (λ (y : ℕ). bit_or y (v / 2 ^ (64 - k))) up
-    ∙ or_shifted (v % 2 ^ (64 - k)) k (v / 2 ^ (64 - k)) (shr_lt k (64 - k) (subst (λ (m : ℕ). v < 2 ^ m) (sym f) hv)))
+    rw (m, n) (pair_parts k v (omega arith) hv)
 
 -- one rotate serves both signs of a position: down by 64 - p is up by p
 pub pair_either : (x : Inputs) (p v : ℕ) → p ≡ position_of x → p < 64 → rotated_pair p v ≡ displaced x (λ k. rotated_pair k v) (λ k. rotated_pair (64 - k) v)

@@ -168,7 +168,7 @@ three_within first second third l i h =
 pub taken_ends : (f : List ℕ → Option ℕ) (l : List ℕ) (i : ℕ) {n to : ℕ} → i ≤ length l → Some (n, to) ≡ taken_at f l i → to ≤ length l
 taken_ends f l i h e = rw (← e) at (taken_within f l i h)
 
-three_ends : (first second third l : List ℕ) (i : ℕ) {x y z to : ℕ} → i ≤ length l
+pub three_ends : (first second third l : List ℕ) (i : ℕ) {x y z to : ℕ} → i ≤ length l
     → Some (x, y, z, to) ≡ three_at l i first second third → to ≤ length l
 three_ends first second third l i h e = rw (← e) at (three_within first second third l i h)
 

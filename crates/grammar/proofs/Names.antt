@@ -32,7 +32,7 @@ starts_zip (c ∷ cs) [] h = absurd (omega arith)
 starts_zip (c ∷ cs) (d ∷ ds) h = rw (starts_zip cs ds (omega arith), eqb_swap (capital d) c)
 
 -- a part that is too short does not
-too_short : (name p : List ℕ) → length p < length name → starts_with name p ≡ false
+pub too_short : (name p : List ℕ) → length p < length name → starts_with name p ≡ false
 too_short [] p h = absurd (omega arith)
 too_short (c ∷ cs) [] h = refl
 too_short (c ∷ cs) (d ∷ ds) h = rw (too_short cs ds (omega arith)) (and-false (eqb c d))
