@@ -87,7 +87,7 @@ impl Machine {
     }
 
     // Taken in: bits 13, 14, 15 and 23 of the status are ignored.
-    // Kept: `enter` and `leave` and no From: they are named in docs/PROMISES.md, and `leave` asks that the status is in range.
+    // Kept: `enter` and `leave` and no From: they are named in docs/FUNCTIONS.md, and `leave` asks that the status is in range.
     pub fn enter(self) -> Core
         ensures { result ≡ taken self }
     {
