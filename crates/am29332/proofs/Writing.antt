@@ -7,7 +7,6 @@ use Rattle.std.specs.Result.{result_unwrap_or}
 use Rattle.reasons.specs.declared.Refusal.{Refusal}
 use Rattle.reasons.specs.Reasons.{check_numbers}
 use Rattle.reasons.specs.Output.{Wrote as WroteBuffer, wrote}
-use Rattle.am29332.specs.declared.Wrote.{Wrote}
 use Rattle.am29332.specs.Numbers.{leaves, wrote_numbers}
 
 pub told : (a : Result ℕ Refusal) (t : List ℕ) (w : WroteBuffer) → wrote a t ≡ w
